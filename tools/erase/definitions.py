@@ -55,11 +55,12 @@ def dedented(text):
 def imported(path, names, definitions):
     """Returns the paths of the names of an import that are definitions, by the names that it gives
     them."""
-    module, known = path.replace(".specs.", "::").replace(".", "::"), {}
+    known = {}
     for name in names.split(","):
         name, _, own = name.strip().partition(" as ")
-        if f"{module}::{name}" in definitions:
-            known[own or name] = f"{module}::{name}"
+        item = f"{path}.{name}".replace(".specs.", "::").replace(".", "::")
+        if item in definitions:
+            known[own or name.rpartition(".")[2]] = item
     return known
 
 

@@ -3,19 +3,10 @@ use Rattle.std.specs.Prelude.{◌≡◌, ◌⊎◌, ℕ, pos, false, List, IsTru
 use lib.Chars.{codes}
 use Rattle.serde_json.specs.Data.{Data, object, member, no_members, string, number}
 use Rattle.serde_json.specs.Find.{of_integer, get}
-use Rattle.font_types.specs.declared.Pad.{Pad}
-use Rattle.font_types.specs.declared.Align.TheVariants.{Right}
-use Rattle.font_types.specs.Fixed.{fixed_bits, fixed_text}
-use Rattle.font_types.specs.Fixed.{Fixed}
-use Rattle.font_types.specs.declared.NameId.{NameId}
-use Rattle.font_types.specs.declared.Tag.{Tag}
-use Rattle.font_types.specs.declared.JsonFault.{JsonFault}
-use Rattle.font_types.specs.declared.JsonFault.TheVariants.{MissingMember}
-use Rattle.font_types.specs.Json.{is_unsigned}
-use Rattle.font_types.specs.Wrap.{fits_bits}
-use Rattle.font_types.specs.NameId.{name_number}
-use Rattle.font_types.specs.Tag.{tag_bytes}
-use Rattle.font_types.specs.Bytes.{are_bytes}
+use Rattle.font_types.specs.{declared.Pad.Pad, declared.Align.TheVariants.Right, Fixed.fixed_bits, Fixed.fixed_text}
+use Rattle.font_types.specs.{Fixed.Fixed, declared.NameId.NameId, declared.Tag.Tag, declared.JsonFault.JsonFault}
+use Rattle.font_types.specs.{declared.JsonFault.TheVariants.MissingMember, Json.is_unsigned, Wrap.fits_bits}
+use Rattle.font_types.specs.{NameId.name_number, Tag.tag_bytes, Bytes.are_bytes}
 use Rattle.callers.specs.declared.dumper.Axis.{Axis}
 
 -- a column of that width, aligned to the right with spaces

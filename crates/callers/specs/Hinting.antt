@@ -1,12 +1,9 @@
 -- The least of coordinates, and the setting of a range.
 use Rattle.std.specs.Prelude.{◌≡◌, ℕ, ◌<◌, ◌≤ℤ◌, ◌<ℤ◌, ◌==◌, List, length, All, Result, Ok, Err}
-use Rattle.std.specs.Int.{w32}
-use Rattle.std.specs.List.{HoldsAt, position_or_len, before_first, after_first}
-use Rattle.font_types.specs.Fixed.{Fixed, fixed_bits}
-use Rattle.font_types.specs.NumberReading.{ParsesFixedPoint}
-use Rattle.callers.specs.declared.hinting.AxisRange.{AxisRange}
-use Rattle.callers.specs.declared.hinting.RangeError.{RangeError}
+use Rattle.std.specs.{Int.w32, List.HoldsAt, List.position_or_len, List.before_first, List.after_first}
+use Rattle.font_types.specs.{Fixed.Fixed, Fixed.fixed_bits, NumberReading.ParsesFixedPoint}
 use Rattle.callers.specs.declared.hinting.RangeError.TheVariants.{NoHigh, Low, High, Reversed}
+use Rattle.callers.specs.{declared.hinting.AxisRange.AxisRange, declared.hinting.RangeError.RangeError}
 
 -- x is at most each number of the list, and one of them
 abbrev pub IsLeast : List Fixed → Fixed → Type 0

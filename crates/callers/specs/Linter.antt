@@ -1,9 +1,6 @@
 -- Reports of a linter.
-use Rattle.std.specs.Prelude.{◌<◌, List, length}
-use Rattle.std.specs.Prelude.{Err}
-use Rattle.std.specs.List.{AllWithin, HoldsAt}
-use Rattle.font_types.specs.declared.Tag.{Tag}
-use Rattle.font_types.specs.Tag.{tag_bytes, IsGood, IsValidated}
+use Rattle.std.specs.{Prelude.◌<◌, Prelude.List, Prelude.length, Prelude.Err, List.AllWithin, List.HoldsAt}
+use Rattle.font_types.specs.{declared.Tag.Tag, Tag.tag_bytes, Tag.IsGood, Tag.IsValidated}
 use Rattle.callers.specs.declared.linter.BadTag.{BadTag}
 
 -- the tags before that index are good, and the one there is not, for that reason

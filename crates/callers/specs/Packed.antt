@@ -1,10 +1,7 @@
 -- Packed deltas (OpenType, font variations common table formats: "Packed Deltas").
-use Rattle.std.specs.Prelude.{ℕ, ◌+◌, ◌*◌, ◌%◌, ℤ, pos, List, take, drop, slice_index, slice_index_or}
-use Rattle.std.specs.Prelude.{nat_le, nat_eq, if◌then◌else◌}
-use Rattle.font_types.specs.Bytes.{signed_numeral}
-use Rattle.font_types.specs.Delta.{term_product}
-use Rattle.font_types.specs.Fixed.{fixed_of}
-use Rattle.font_types.specs.Fixed.{Fixed}
+use Rattle.std.specs.Prelude.{ℕ, ◌+◌, ◌*◌, ◌%◌, ℤ, pos, List, take, drop, slice_index, slice_index_or, nat_le, nat_eq}
+use Rattle.std.specs.Prelude.{if◌then◌else◌}
+use Rattle.font_types.specs.{Bytes.signed_numeral, Delta.term_product, Fixed.fixed_of, Fixed.Fixed}
 
 -- the low six bits of the control byte are one less than the number of deltas
 abbrev pub run_count : ℕ → ℕ

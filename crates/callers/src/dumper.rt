@@ -1,19 +1,13 @@
 //! A dumper of font values: columns, raw values in hexadecimal, and JSON.
 
-ghost use Rattle.std.specs.Prelude.{◌≡◌, ◌≤◌, ◌<◌};
-ghost use Rattle.std.specs.Prelude.{Some, None, Ok, IfOk, IfErr};
-ghost use Rattle.std.specs.Prelude.{MatchResult};
+ghost use Rattle.std.specs.Prelude.{◌≡◌, ◌≤◌, ◌<◌, Some, None, Ok, IfOk, IfErr, MatchResult};
 ghost use Rattle.std.specs.List.{flat_map};
 ghost use lib.Chars.{codes};
-ghost use Rattle.serde_json.specs.Data.{object, member, no_members};
-ghost use Rattle.serde_json.specs.Find.{get};
-ghost use Rattle.serde_json.specs.View.{view};
-ghost use Rattle.font_types.specs.Fixed.{fixed_text};
-ghost use Rattle.font_types.specs.Padding.{padded_text};
+ghost use Rattle.serde_json.specs.{Data.object, Data.member, Data.no_members, Find.get, View.view};
 ghost use Rattle.font_types.specs.Tag.{tag_bytes, IsGood};
+ghost use Rattle.font_types.specs.{Fixed.fixed_text, Padding.padded_text};
 ghost use Rattle.callers.specs.declared.dumper.Axis.{Axis};
-ghost use Rattle.callers.specs.Dumper.{column, IsAxis, axis_form};
-ghost use Rattle.callers.specs.Dumper.{ConvertsMember, ConvertsAxis};
+ghost use Rattle.callers.specs.Dumper.{column, IsAxis, axis_form, ConvertsMember, ConvertsAxis};
 
 use font_types::{Fixed, JsonFault, JsonScalar, NameId, Pad, Tag};
 use serde_json::{Value, json};

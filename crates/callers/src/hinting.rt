@@ -1,23 +1,16 @@
 //! A hinter: zones, the grid of pixels, positions between two others, and a range.
 
-ghost use Rattle.std.specs.Prelude.{◌≡◌, ◌<◌, pos, ◌+ℤ◌, ◌-ℤ◌, ◌*ℤ◌};
-ghost use Rattle.std.specs.Prelude.{◌≤ℤ◌, ◌<ℤ◌, ◌≤◌, length};
+ghost use Rattle.std.specs.Prelude.{◌≡◌, ◌<◌, pos, ◌+ℤ◌, ◌-ℤ◌, ◌*ℤ◌, ◌≤ℤ◌, ◌<ℤ◌, ◌≤◌, length};
 ghost use Rattle.std.specs.Prelude.{int_lt, MatchOption, IfOk};
-ghost use Rattle.std.specs.Int.{w32};
-ghost use Rattle.std.specs.List.{find};
+ghost use Rattle.std.specs.{Int.w32, List.find};
 ghost use Rattle.font_types.specs.Fixed;
-ghost use Rattle.font_types.specs.Fixed.{fixed_bits};
-ghost use Rattle.font_types.specs.F26Dot6.{f26dot6_bits};
+ghost use Rattle.font_types.specs.{Fixed.fixed_bits, F26Dot6.f26dot6_bits};
 ghost use Rattle.font_types.specs.F2Dot14;
-ghost use Rattle.font_types.specs.F2Dot14.{f2dot14_bits};
-ghost use Rattle.font_types.specs.FWord.{fword_number};
-ghost use Rattle.font_types.specs.Near.{near, up};
-ghost use Rattle.font_types.specs.NumberReading.{ParsesFixedPoint};
-ghost use Rattle.font_types.specs.FixedMatrix.{wrapped_sum, wrapped_product};
 ghost use Rattle.font_types.specs.Operations.{IsIntegral, IsMulDiv, rounded_mul_div};
-ghost use Rattle.font_types.specs.Wrap.{FitsBits, wrap};
-ghost use Rattle.callers.specs.Hinting.{IsLeast};
-ghost use Rattle.callers.specs.Hinting.{high_start, AreEnds, HasValue, ParsesRange};
+ghost use Rattle.font_types.specs.{F2Dot14.f2dot14_bits, FWord.fword_number, Near.near, Near.up};
+ghost use Rattle.font_types.specs.{NumberReading.ParsesFixedPoint, FixedMatrix.wrapped_sum};
+ghost use Rattle.font_types.specs.{FixedMatrix.wrapped_product, Wrap.FitsBits, Wrap.wrap};
+ghost use Rattle.callers.specs.Hinting.{IsLeast, high_start, AreEnds, HasValue, ParsesRange};
 
 use font_types::{DecimalFault, F2Dot14, F26Dot6, FWord, Fixed};
 

@@ -2,11 +2,8 @@
 
 ghost use Rattle.std.specs.List.Sorted.{IsPermutation, IsSortedByKey};
 ghost use Rattle.std.specs.List.{AllAdjacentBelow, sum_by};
-ghost use Rattle.std.specs.Prelude.{◌≡◌, ◌↔◌, ◌<◌, ◌%◌, ◌^◌, All, IsTrue, MatchResult};
-ghost use Rattle.std.specs.Prelude.{length, sum};
-ghost use Rattle.font_types.specs.Array.{array_elements};
-ghost use Rattle.font_types.specs.Bytes.{numeral};
-ghost use Rattle.font_types.specs.Tag.{tag_bytes, IsGood};
+ghost use Rattle.std.specs.Prelude.{◌≡◌, ◌↔◌, ◌<◌, ◌%◌, ◌^◌, All, IsTrue, MatchResult, length, sum};
+ghost use Rattle.font_types.specs.{Array.array_elements, Bytes.numeral, Tag.tag_bytes, Tag.IsGood};
 ghost use Rattle.callers.specs.Linter.{IsFirstBad};
 
 use font_types::{InvalidTag, Offset32, ScalarArray, Tag};

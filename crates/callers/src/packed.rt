@@ -1,13 +1,9 @@
 //! Packed deltas, run by run, and the terms that they give.
 
-ghost use Rattle.std.specs.Prelude.{◌≡◌, ◌↔◌, ◌<◌, ◌≤◌, ◌+◌, ◌-◌, ◌*◌, ◌/◌};
-ghost use Rattle.std.specs.Prelude.{ℕ, pos, IsSome, IfSome, IfOk};
-ghost use Rattle.std.specs.Prelude.{length, drop, slice_index, slice_index_or, vec_len};
-ghost use Rattle.callers.specs.Packed.{run_count, run_width, run_delta, run_bytes};
-ghost use Rattle.callers.specs.Packed.{term_value};
-ghost use Rattle.font_types.specs.Delta.{total_below};
-ghost use Rattle.font_types.specs.F48Dot16.{f48dot16_bits};
-ghost use Rattle.font_types.specs.Wrap.{wrap};
+ghost use Rattle.std.specs.Prelude.{◌≡◌, ◌↔◌, ◌<◌, ◌≤◌, ◌+◌, ◌-◌, ◌*◌, ◌/◌, ℕ, pos, IsSome, IfSome};
+ghost use Rattle.std.specs.Prelude.{IfOk, length, drop, slice_index, slice_index_or, vec_len};
+ghost use Rattle.callers.specs.Packed.{run_count, run_width, run_delta, run_bytes, term_value};
+ghost use Rattle.font_types.specs.{Delta.total_below, F48Dot16.f48dot16_bits, Wrap.wrap};
 
 use font_types::{F48Dot16, Fixed, Scalar};
 use std::alloc::{AllocError, Global};

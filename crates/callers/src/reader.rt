@@ -1,23 +1,18 @@
 //! A reader of tables: `head`, `hmtx`, `kern`, arrays and searches.
 
 ghost use Rattle.std.specs.Prelude.{◌≡◌, ◌≢◌, ◌↔◌, ◌≤◌, ◌<◌, ◌+◌, ◌*◌, ◌/◌, ◌%◌, ◌^◌, ◌&&◌, ◌++◌};
-ghost use Rattle.std.specs.Prelude.{ℕ, pos, nat_lt, refl};
-ghost use Rattle.std.specs.Prelude.{IsTrue, IsSome, IfSome, IfNone, MatchOption};
-ghost use Rattle.std.specs.Prelude.{MatchResult, IsSomeAnd, Result, None};
-ghost use Rattle.std.specs.Prelude.{length, take, drop};
-ghost use Rattle.std.specs.Ordering.{nat_cmp};
-ghost use Rattle.std.specs.Int.Bits.{bit_and};
+ghost use Rattle.std.specs.Prelude.{ℕ, pos, nat_lt, refl, IsTrue, IsSome, IfSome, IfNone};
+ghost use Rattle.std.specs.Prelude.{MatchOption, MatchResult, IsSomeAnd, Result, None, length};
+ghost use Rattle.std.specs.Prelude.{take, drop};
+ghost use Rattle.std.specs.{Ordering.nat_cmp, Int.Bits.bit_and};
 ghost use Rattle.std.proofs.Common.{lit<};
 ghost use Rattle.font_types.specs.Bytes.{numeral, signed_numeral, bytes_of};
 ghost use Rattle.font_types.specs.Scalar.Laws.{unsigned_newtype, unsigned_identity, signed_newtype};
-ghost use Rattle.font_types.specs.Records.{record_laws};
-ghost use Rattle.font_types.specs.Array.{array_len, element_bytes};
-ghost use Rattle.font_types.specs.Array.{IsSearched, IsPartitionPoint};
-ghost use Rattle.font_types.specs.Wrap.{fits_bits};
+ghost use Rattle.font_types.specs.Array.{array_len, element_bytes, IsSearched, IsPartitionPoint};
 ghost use Rattle.font_types.specs.FWord.{fword_number, fword_of, ufword_number, ufword_of};
 ghost use Rattle.font_types.specs.GlyphId.{glyph16_number, glyph16_of};
-ghost use Rattle.callers.specs.Reader.{advance_offset};
-ghost use Rattle.callers.specs.Reader.{pair_key};
+ghost use Rattle.font_types.specs.{Records.record_laws, Wrap.fits_bits};
+ghost use Rattle.callers.specs.Reader.{advance_offset, pair_key};
 
 use font_types::{
     BigEndian, FWord, Fixed, FixedSize, GlyphId16, IdentityEq, LongDateTime, Offset32, Scalar,

@@ -1,17 +1,13 @@
 //! A scaler of outlines: points through a chain of matrices, and advances.
 
-ghost use Rattle.std.specs.Prelude.{◌≡◌, ◌+◌, ◌*◌, ◌^◌, ◌<◌, ◌≤◌, ℕ, IfSome, IfNone, IfOk};
-ghost use Rattle.std.specs.Prelude.{length, take, map, slice_index_or};
-ghost use Rattle.std.specs.Prelude.{pos, neg_ℤ, ◌+ℤ◌, ◌-ℤ◌, ◌*ℤ◌, ◌≤ℤ◌};
-ghost use Rattle.font_types.specs.Delta.{total};
-ghost use Rattle.font_types.specs.Fixed.{Fixed, fixed_bits};
-ghost use Rattle.font_types.specs.FixedMatrix.{matrix_bits, point_bits, exact_image};
-ghost use Rattle.font_types.specs.FixedMatrix.{wrapped_sum, wrapped_product};
-ghost use Rattle.font_types.specs.FixedMatrix.{FitsComposed, IsCloseComposed};
-ghost use Rattle.font_types.specs.FixedMatrix.{FitsInTurn, IsCloseInTurn};
-ghost use Rattle.font_types.specs.FixedMatrix.{IsBounded, IsBoundedPoint, IsWithin};
-ghost use Rattle.font_types.specs.Matrix.{image_of};
+ghost use Rattle.std.specs.Prelude.{◌≡◌, ◌+◌, ◌*◌, ◌^◌, ◌<◌, ◌≤◌, ℕ, IfSome, IfNone, IfOk, length};
+ghost use Rattle.std.specs.Prelude.{take, map, slice_index_or, pos, neg_ℤ, ◌+ℤ◌, ◌-ℤ◌, ◌*ℤ◌, ◌≤ℤ◌};
+ghost use Rattle.font_types.specs.FixedMatrix.{matrix_bits, point_bits, exact_image, wrapped_sum};
+ghost use Rattle.font_types.specs.FixedMatrix.{wrapped_product, FitsComposed, IsCloseComposed};
+ghost use Rattle.font_types.specs.FixedMatrix.{FitsInTurn, IsCloseInTurn, IsBounded};
+ghost use Rattle.font_types.specs.FixedMatrix.{IsBoundedPoint, IsWithin};
 ghost use Rattle.font_types.specs.Wrap.{FitsBits, wrap};
+ghost use Rattle.font_types.specs.{Delta.total, Fixed.Fixed, Fixed.fixed_bits, Matrix.image_of};
 
 use font_types::{Fixed, Matrix, Point, laws};
 use std::alloc::{AllocError, Global};

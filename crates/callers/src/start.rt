@@ -1,14 +1,10 @@
 //! A first caller: a field of a table, a stem on the pixel grid, and a loop.
 
-ghost use Rattle.std.specs.Prelude.{◌≡◌, ◌↔◌, ◌+◌, ◌≤◌, pos, ◌+ℤ◌, ◌≤ℤ◌, ◌<ℤ◌};
-ghost use Rattle.std.specs.Prelude.{length, take, drop, IsSome, IfSome};
-ghost use Rattle.font_types.specs.Bytes.{numeral};
-ghost use Rattle.font_types.specs.Delta.{total};
-ghost use Rattle.font_types.specs.F26Dot6.{f26dot6_bits};
-ghost use Rattle.font_types.specs.Fixed.{fixed_bits};
-ghost use Rattle.font_types.specs.FWord.{ufword_number};
-ghost use Rattle.font_types.specs.Operations.{IsIntegral};
+ghost use Rattle.std.specs.Prelude.{◌≡◌, ◌↔◌, ◌+◌, ◌≤◌, pos, ◌+ℤ◌, ◌≤ℤ◌, ◌<ℤ◌, length, take, drop};
+ghost use Rattle.std.specs.Prelude.{IsSome, IfSome};
 ghost use Rattle.font_types.specs.Wrap.{FitsBits, wrap};
+ghost use Rattle.font_types.specs.{Bytes.numeral, Delta.total, F26Dot6.f26dot6_bits};
+ghost use Rattle.font_types.specs.{Fixed.fixed_bits, FWord.ufword_number, Operations.IsIntegral};
 ghost use Rattle.callers.specs.Start.{metric_offset};
 
 use font_types::{F26Dot6, Fixed, Scalar, UfWord};

@@ -1,11 +1,8 @@
 //! A writer of tables: fields, headers and arrays of words. What has no room is not written.
 
-ghost use Rattle.std.specs.Prelude.{◌≡◌, ◌↔◌, ◌≤◌, ◌+◌, ◌*◌, ◌/◌, pos};
-ghost use Rattle.std.specs.Prelude.{IsTrue, IsSome, IfSome, IfNone, IfOk, IfErr, MatchResult};
-ghost use Rattle.std.specs.Prelude.{length, take, drop, All};
-ghost use Rattle.font_types.specs.Bytes.{bytes_of};
-ghost use Rattle.font_types.specs.FWord.{fword_number};
-ghost use Rattle.font_types.specs.LongDateTime.{date_seconds};
+ghost use Rattle.std.specs.Prelude.{◌≡◌, ◌↔◌, ◌≤◌, ◌+◌, ◌*◌, ◌/◌, pos, IsTrue, IsSome, IfSome};
+ghost use Rattle.std.specs.Prelude.{IfNone, IfOk, IfErr, MatchResult, length, take, drop, All};
+ghost use Rattle.font_types.specs.{Bytes.bytes_of, FWord.fword_number, LongDateTime.date_seconds};
 ghost use Rattle.callers.specs.Writer.{IsShort, IsLocaError, halves};
 
 use font_types::{FWord, LongDateTime, Scalar};

@@ -1,14 +1,10 @@
 -- std's chunks of bytes.
-use Rattle.std.proofs.Common.{◌≡◌, refl, ℕ, zero, suc, ◌+◌, ◌*◌, ◌/◌, ◌<◌, ◌≤◌, IsTrue}
-use Rattle.std.proofs.Common.{List, [], ◌∷◌, ◌++◌, length, take, drop, get_or, flat_map, arith, ◌&&◌, ◌==◌}
-use Rattle.std.proofs.Common.{length-drop, length-take-le, suc-mul, zero-mul, take-add, get_or-drop}
-use Rattle.std.proofs.lemmas.Bool.Decides.{nat_tests}
-use Rattle.std.proofs.lemmas.List.{take-append-drop}
-use Rattle.std.specs.List.{list_all}
-use Rattle.std.specs.Simd.{first_chunks}
-use Rattle.font_base.specs.Bytes.{are_bytes}
-use Rattle.font_base.specs.Bytes.Laws.{are_bytes_in}
-use Rattle.font_base.specs.Elements.{AreRaw}
+use Rattle.std.proofs.Common.{◌≡◌, refl, ℕ, zero, suc, ◌+◌, ◌*◌, ◌/◌, ◌<◌, ◌≤◌, IsTrue, List, [], ◌∷◌, ◌++◌, length}
+use Rattle.std.proofs.Common.{take, drop, get_or, flat_map, arith, ◌&&◌, ◌==◌, length-drop, length-take-le, suc-mul}
+use Rattle.std.proofs.Common.{zero-mul, take-add, get_or-drop}
+use Rattle.std.proofs.{lemmas.Bool.Decides.nat_tests, lemmas.List.take-append-drop}
+use Rattle.std.specs.{List.list_all, Simd.first_chunks}
+use Rattle.font_base.specs.{Bytes.are_bytes, Bytes.Laws.are_bytes_in, Elements.AreRaw}
 
 abbrev pub ByteAt : List ℕ → Type 0
 ByteAt bytes = (i : ℕ) → get_or bytes i 0 < 256

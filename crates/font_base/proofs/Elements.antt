@@ -3,11 +3,9 @@ use Rattle.std.proofs.Common.{◌≡◌, ◌∙◌, sym, ap, refl, ℕ, zero, su
 use Rattle.std.proofs.Common.{List, [], ◌∷◌, ◌++◌, map, length, take, drop, get_or, flat_map, arith, ◌&&◌, ◌==◌}
 use Rattle.std.proofs.Common.{length-append, suc-mul, zero-mul, drop-drop, take-take}
 use Rattle.std.proofs.Math.Seq.{take-append_seam, drop-append_seam, take-append-add, drop-append-add}
-use Rattle.std.proofs.lemmas.Bool.Decides.{nat_tests}
-use Rattle.std.proofs.lemmas.Grind.{common_steps}
-use Rattle.std.proofs.lemmas.List.{take-append-le}
+use Rattle.std.proofs.lemmas.List.{take-append-le, take-map, drop-map, drop-take}
+use Rattle.std.proofs.{lemmas.Bool.Decides.nat_tests, lemmas.Grind.common_steps}
 use Rattle.std.specs.List.{list_all}
-use Rattle.std.proofs.lemmas.List.{take-map, drop-map, drop-take}
 use Rattle.font_base.specs.Elements.{element, elements, AreRaw}
 
 pub length-elements : (size n : ℕ) (bytes : List ℕ) → length (elements size n bytes) ≡ n

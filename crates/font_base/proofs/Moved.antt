@@ -1,9 +1,8 @@
 -- The bytes of the sum of an unsigned and a signed 16-bit number.
-use Rattle.std.proofs.Common.{◌≡◌, ℕ, ◌+◌, ◌-◌, ◌<◌, ◌%◌, ℤ, pos, negsuc, neg_ℤ, ◌+ℤ◌, ◌-ℤ◌, ◌/◌, arith, SFits}
-use Rattle.std.proofs.Common.{of_z, w16}
+use Rattle.std.proofs.Common.{◌≡◌, ℕ, ◌+◌, ◌-◌, ◌<◌, ◌%◌, ℤ, pos, negsuc, neg_ℤ, ◌+ℤ◌, ◌-ℤ◌, ◌/◌, arith, SFits, of_z}
+use Rattle.std.proofs.Common.{w16}
 use Rattle.std.proofs.lemmas.Int.{ints}
-use Rattle.font_base.specs.Bytes.{bytes_of}
-use Rattle.font_base.specs.Bytes.Laws.{bytes_of-same}
+use Rattle.font_base.specs.{Bytes.bytes_of, Bytes.Laws.bytes_of-same}
 
 -- moved up by d, and down by d + 1: either wraps once at most
 moved_up : (m d : ℕ) → m < 65536 → d < 65536 → bytes_of 2 (pos ((m + d) % 65536)) ≡ bytes_of 2 (pos m +ℤ pos d)

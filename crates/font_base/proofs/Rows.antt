@@ -1,7 +1,6 @@
 -- Values of the definitions, worked out by hand.
 use Rattle.std.proofs.Common.{◌≡◌, refl, [], ◌∷◌, pos, neg_ℤ}
-use Rattle.font_base.specs.Wrap.{wrap}
-use Rattle.font_base.specs.Bytes.{numeral, bytes_of, signed_numeral}
+use Rattle.font_base.specs.{Wrap.wrap, Bytes.numeral, Bytes.bytes_of, Bytes.signed_numeral}
 
 row-numeral : numeral (0xFF ∷ 0xAA ∷ 0xCC ∷ []) ≡ 16755404
 row-numeral = refl

@@ -3,18 +3,12 @@
 use Rattle.std.proofs.Common.{◌≡◌, ◌≢◌, ◌∙◌, sym, ap, refl, arith, rules, ℕ, ◌^◌, ◌<◌, ◌≤◌, Bool, List, get_or, pos}
 use Rattle.std.proofs.Common.{nat_lt, Result, Ok, Err, IfOk, IfErr, MatchResult, All, IsSortedByKey, nat_cmp, Ordering}
 use Rattle.std.proofs.Common.{Equal}
-use Rattle.std.proofs.lemmas.Bool.{cases_lt}
-use Rattle.std.proofs.lemmas.Bool.Decides.{nat_tests}
-use Rattle.std.proofs.lemmas.List.Sorted.{searchable_from_sorted}
-use Rattle.std.specs.Cmp.{nat_cmp_is, nat_cmp_total}
-use Rattle.std.specs.List.Sorted.{IsBinarySearchResult}
-use Rattle.font_base.specs.Bytes.{numeral, signed_numeral, bytes_of}
-use Rattle.font_base.specs.Bytes.Laws.{unsigned_back}
+use Rattle.std.proofs.{lemmas.Bool.cases_lt, lemmas.Bool.Decides.nat_tests, lemmas.List.Sorted.searchable_from_sorted}
+use Rattle.std.specs.{Cmp.nat_cmp_is, Cmp.nat_cmp_total, List.Sorted.IsBinarySearchResult}
 use Rattle.font_base.specs.Elements.{element, IsStored, StoresOne, Rises, Splits}
-use Rattle.font_base.specs.declared.uint24.Uint24.{Uint24}
-use Rattle.font_base.specs.Uint24.{uint24_number, bytes_of_uint24}
-use Rattle.font_base.specs.declared.int24.Int24.{Int24}
-use Rattle.font_base.specs.Int24.{int24_number, bytes_of_int24}
+use Rattle.font_base.specs.{Bytes.numeral, Bytes.signed_numeral, Bytes.bytes_of, Bytes.Laws.unsigned_back}
+use Rattle.font_base.specs.{declared.uint24.Uint24.Uint24, Uint24.uint24_number, Uint24.bytes_of_uint24}
+use Rattle.font_base.specs.{declared.int24.Int24.Int24, Int24.int24_number, Int24.bytes_of_int24}
 use Rattle.font_base.proofs.ThreeBytes.{uint24_numeral, int24_numeral}
 
 pub uint24_of_stored : (n : Uint24) (bytes : List ℕ) → bytes_of_uint24 n ≡ bytes → uint24_number n ≡ numeral bytes

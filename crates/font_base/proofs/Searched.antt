@@ -1,15 +1,13 @@
 -- Searches of std, as searches of an array.
-use Rattle.std.proofs.Common.{◌≡◌, ◌∙◌, sym, ap, ℕ, ◌/◌, ◌<◌, ◌≤◌, Bool, true, false, IsTrue, arith}
-use Rattle.std.proofs.Common.{List, [], ◌∷◌, length, get_or, flat_map, Result, Ok, Err, MatchResult, IfOk, IfErr}
-use Rattle.std.proofs.Common.{Ordering, Less, Equal, Greater}
+use Rattle.std.proofs.Common.{◌≡◌, ◌∙◌, sym, ap, ℕ, ◌/◌, ◌<◌, ◌≤◌, Bool, true, false, IsTrue, arith, List, [], ◌∷◌}
+use Rattle.std.proofs.Common.{length, get_or, flat_map, Result, Ok, Err, MatchResult, IfOk, IfErr, Ordering, Less}
+use Rattle.std.proofs.Common.{Equal, Greater}
 use Rattle.std.proofs.lemmas.Bool.Decides.{nat_tests}
-use Rattle.std.specs.List.{AllWithin}
 use Rattle.std.specs.List.Sorted.{IsBinarySearchResult, IsNonDecreasingBy, IsPartitionedBy, IsSearchInRange}
 use Rattle.std.specs.List.Sorted.{IsPartitionPoint}
-use Rattle.std.specs.Ordering.{ordering_index}
-use Rattle.font_base.specs.Elements.{element, IsStored, StoresOne, Rises, Splits, side}
+use Rattle.std.specs.{List.AllWithin, Ordering.ordering_index}
+use Rattle.font_base.specs.Elements.{element, IsStored, StoresOne, Rises, Splits, side, AreRaw}
 use Rattle.font_base.specs.Scalar.{ScalarLaws}
-use Rattle.font_base.specs.Elements.{AreRaw}
 use Rattle.font_base.proofs.Elements.{counted, element_at, value_at}
 
 -- some element, where there is one

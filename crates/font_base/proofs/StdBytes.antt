@@ -1,15 +1,12 @@
 -- The bytes that std reads and writes, as numerals.
 use Rattle.std.proofs.Common.{◌≡◌, ◌∙◌, ◌+◌, drop-cons, drop_of_length-le, sym, ap, ℕ, zero, suc, ◌*◌, ◌^◌, ◌<◌, ◌≤◌, ℤ}
-use Rattle.std.proofs.Common.{pos, negsuc, ◌+ℤ◌, ◌*ℤ◌, List, [], ◌∷◌, length, get_or, drop}
-use Rattle.std.proofs.Common.{arith, mod-eq_of_lt, w8, w16, w32, w64, SFits, to_z, of_z}
-use Rattle.std.proofs.lemmas.Int.{to_z-of_z}
-use Rattle.std.proofs.lemmas.Bool.Decides.{nat_tests}
-use Rattle.std.proofs.Math.Facts.{Fits-of_z}
-use Rattle.std.specs.Int.{Width, byte_len, to_be_bytes, from_be_bytes}
+use Rattle.std.proofs.Common.{pos, negsuc, ◌+ℤ◌, ◌*ℤ◌, List, [], ◌∷◌, length, get_or, drop, arith, mod-eq_of_lt, w8}
+use Rattle.std.proofs.Common.{w16, w32, w64, SFits, to_z, of_z}
 use Rattle.std.proofs.lemmas.Grind.{common_steps}
+use Rattle.std.proofs.{lemmas.Int.to_z-of_z, lemmas.Bool.Decides.nat_tests, Math.Facts.Fits-of_z}
+use Rattle.std.specs.Int.{Width, byte_len, to_be_bytes, from_be_bytes}
 use mir.Val.{bits, hbits}
-use Rattle.font_base.specs.Bytes.{numeral, bytes_of, signed_numeral}
-use Rattle.font_base.specs.Bytes.Laws.{bytes_of-same}
+use Rattle.font_base.specs.{Bytes.numeral, Bytes.bytes_of, Bytes.signed_numeral, Bytes.Laws.bytes_of-same}
 use Rattle.font_base.proofs.Widths.{to_z-wrap}
 
 -- the bits of a width, its bytes and its half range

@@ -2,16 +2,12 @@
 use Rattle.std.proofs.Common.{◌≡◌, ◌∙◌, sym, ap, refl, subst, ℕ, ◌+◌, ◌*◌, ℤ, pos, ◌*ℤ◌, neg_ℤ, List, ◌^◌, ◌<◌, lit<}
 use Rattle.std.proofs.Common.{[], ◌∷◌, length, get_or, arith, SFits, to_z, of_z, lt-ltb, w32}
 use Rattle.std.proofs.lemmas.Int.{ints, to_z-of_z, to_z_pos}
-use Rattle.std.proofs.Math.Facts.{to_z-neg}
-use Rattle.std.proofs.lemmas.Bool.Decides.{nat_tests}
-use Rattle.std.specs.Int.Signed.{quot_z}
-use Rattle.std.specs.Cmp.Derive.{both_true}
-use Rattle.std.specs.Int.{to_be_bytes}
-use Rattle.font_base.specs.Bytes.{numeral, signed_numeral, bytes_of, IsBytesOf}
-use Rattle.font_base.specs.Wrap.{FitsBits, IsWrapped}
+use Rattle.std.proofs.{Math.Facts.to_z-neg, lemmas.Bool.Decides.nat_tests}
+use Rattle.std.specs.{Int.Signed.quot_z, Cmp.Derive.both_true, Int.to_be_bytes}
+use Rattle.font_base.specs.{Bytes.numeral, Bytes.signed_numeral, Bytes.bytes_of, Bytes.IsBytesOf, Wrap.FitsBits}
+use Rattle.font_base.specs.{Wrap.IsWrapped, Bytes.Laws.IsBytesOf-numeral, Bytes.Laws.IsBytesOf-high_first}
+use Rattle.font_base.specs.{Bytes.Laws.IsBytesOf-apart, Bytes.Laws.numeral-bytes_of, Bytes.Laws.signed_numeral-bytes_of}
 use Rattle.font_base.proofs.StdBytes.{turns_of, of_z-turned}
-use Rattle.font_base.specs.Bytes.Laws.{IsBytesOf-numeral, IsBytesOf-high_first, IsBytesOf-apart, numeral-bytes_of}
-use Rattle.font_base.specs.Bytes.Laws.{signed_numeral-bytes_of}
 
 -- the last three of the four bytes of a number
 pub last_three : (m : ℕ) (bytes : List ℕ) → bytes ≡ to_be_bytes w32 m

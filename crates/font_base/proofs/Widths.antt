@@ -1,10 +1,8 @@
 -- Wrapping at the widths of std's number types, in std's terms.
 use Rattle.std.proofs.Common.{◌≡◌, ◌∙◌, sym, ap, ℕ, suc, ◌-◌, ◌^◌, ◌<◌, ℤ, pos, negsuc, inl, inr, arith, pow_pos, SFits}
 use Rattle.std.proofs.Common.{to_z}
-use Rattle.std.proofs.lemmas.Bool.Decides.{nat_tests}
 use Rattle.std.proofs.lemmas.Int.{ints, to_z_pos}
-use Rattle.std.proofs.lemmas.Bool.{cases_lt}
-use Rattle.std.proofs.Math.Facts.{to_z-neg}
+use Rattle.std.proofs.{lemmas.Bool.Decides.nat_tests, lemmas.Bool.cases_lt, Math.Facts.to_z-neg}
 use Rattle.std.specs.Int.{int_wrap, Width}
 use mir.Val.{bits, hbits}
 use Rattle.font_base.specs.Wrap.{half_range, FitsBits, wrap}

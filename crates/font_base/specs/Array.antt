@@ -1,14 +1,11 @@
 -- Arrays of scalars (OpenType, the tables' formats: arrays of numbers and of records).
 use Rattle.std.specs.Prelude.{◌≡◌, ℕ, ◌/◌, ◌<◌, ◌≤◌, List, length, map, flat_map, Bool, Result, MatchResult}
-use Rattle.std.specs.declared.cmp.Ordering.{Ordering}
-use Rattle.std.specs.declared.cmp.Ordering.TheVariants.{Equal}
-use Rattle.std.specs.Slice.Iter.{iter_rest}
+use Rattle.std.specs.{declared.cmp.Ordering.Ordering, declared.cmp.Ordering.TheVariants.Equal, Slice.Iter.iter_rest}
 use Rattle.font_base.specs.declared.raw.BeByteArray as BeByteArray
 use Rattle.font_base.specs.declared.raw.FixedSize as FixedSize
 use Rattle.font_base.specs.declared.raw.Scalar as Scalar
-use Rattle.font_base.specs.declared.array.ScalarArray.{ScalarArray}
-use Rattle.font_base.specs.declared.array.ScalarArrayIter.{ScalarArrayIter}
 use Rattle.font_base.specs.Elements.{element, elements, StoresOne, Rises, Splits, side}
+use Rattle.font_base.specs.{declared.array.ScalarArray.ScalarArray, declared.array.ScalarArrayIter.ScalarArrayIter}
 
 module _ {T X : Type 0} {scalar : Scalar.Ghosts T X} {size : FixedSize.Ghosts T} {x : BeByteArray.Ghosts X} where
   -- the bytes of an array

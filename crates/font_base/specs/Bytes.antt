@@ -3,8 +3,7 @@
 pub mod Laws
 use Rattle.std.specs.Prelude.{◌≡◌, ℕ, ◌+◌, ◌*◌, ◌^◌, ◌<◌, Bool, List, length, fold, ◌&&◌, ◌==◌, IsTrue, nat_lt}
 use Rattle.std.specs.Prelude.{unsigned_abs, ℤ, pos, ◌+ℤ◌, ◌*ℤ◌}
-use Rattle.std.specs.List.{list_all}
-use Rattle.std.specs.Int.{bytes_high_first, int_rem_euclid}
+use Rattle.std.specs.{List.list_all, Int.bytes_high_first, Int.int_rem_euclid}
 use Rattle.font_base.specs.Wrap.{wrap}
 
 -- the unsigned integer with these big-endian bytes

@@ -1,11 +1,9 @@
 -- Consecutive elements of equal size.
 -- (OpenType, the tables' formats: arrays, as of `uint16` in `cmap` and of records in the table directory)
-use Rattle.std.specs.Prelude.{◌≡◌, ℕ, zero, suc, ◌*◌, ◌<◌, ◌≤◌, List, [], ◌∷◌, take, drop, length}
-use Rattle.std.specs.Prelude.{Bool, IsTrue, ◌&&◌, ◌==◌, if◌then◌else◌}
-use Rattle.std.specs.declared.cmp.Ordering.{Ordering}
+use Rattle.std.specs.Prelude.{◌≡◌, ℕ, zero, suc, ◌*◌, ◌<◌, ◌≤◌, List, [], ◌∷◌, take, drop, length, Bool, IsTrue, ◌&&◌}
+use Rattle.std.specs.Prelude.{◌==◌, if◌then◌else◌}
 use Rattle.std.specs.declared.cmp.Ordering.TheVariants.{Less, Greater}
-use Rattle.std.specs.Ordering.{ordering_index}
-use Rattle.std.specs.List.{list_all}
+use Rattle.std.specs.{declared.cmp.Ordering.Ordering, Ordering.ordering_index, List.list_all}
 
 -- the bytes of the element at an index, if each element has `size` bytes
 abbrev pub element : ℕ → List ℕ → ℕ → List ℕ

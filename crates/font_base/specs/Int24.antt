@@ -1,10 +1,8 @@
 -- 24-bit signed integers (OpenType, data types: int24).
 pub mod Laws
 use Rattle.std.proofs.Common.{ℕ, ℤ, pos, neg_ℤ, List, lit<}
-use Rattle.font_base.specs.Wrap.{wrap}
-use Rattle.font_base.specs.Wrap.Laws.{wrap_is}
 use Rattle.font_base.specs.Bytes.{bytes_of, signed_numeral}
-use Rattle.font_base.specs.declared.int24.Int24.{Int24}
+use Rattle.font_base.specs.{Wrap.wrap, Wrap.Laws.wrap_is, declared.int24.Int24.Int24}
 
 -- the value of an `Int24`
 abbrev pub int24_number : Int24 → ℤ

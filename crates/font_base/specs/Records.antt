@@ -1,14 +1,10 @@
 -- A record of two consecutive scalars is a scalar (OpenType, the tables' formats: records).
-use Rattle.std.proofs.Common.{◌≡◌, ◌∙◌, sym, ap, ℕ, ◌+◌, Bool, ◌&&◌, ◌==◌, IsTrue, List, ◌++◌, length, take}
-use Rattle.std.proofs.Common.{drop, arith, true, eq-eqb}
+use Rattle.std.proofs.Common.{◌≡◌, ◌∙◌, sym, ap, ℕ, ◌+◌, Bool, ◌&&◌, ◌==◌, IsTrue, List, ◌++◌, length, take, drop}
+use Rattle.std.proofs.Common.{arith, true, eq-eqb}
 use Rattle.std.proofs.lemmas.List.{take-append-drop, length-append, length-drop, length-take-le, take_at, drop_at}
 use Rattle.std.proofs.lemmas.List.Folds.{list_all-append}
-use Rattle.std.specs.Cmp.{first_so, second_so}
-use Rattle.std.specs.Cmp.Derive.{both_true}
-use Rattle.std.specs.List.{list_all}
-use Rattle.font_base.specs.Bytes.{are_bytes}
-use Rattle.font_base.specs.Bytes.Laws.{is_byte, are_bytes-length}
-use Rattle.font_base.specs.Scalar.{ScalarLaws}
+use Rattle.std.specs.{Cmp.first_so, Cmp.second_so, Cmp.Derive.both_true, List.list_all}
+use Rattle.font_base.specs.{Bytes.are_bytes, Bytes.Laws.is_byte, Bytes.Laws.are_bytes-length, Scalar.ScalarLaws}
 
 all_are : (n : ℕ) (bytes : List ℕ) → IsTrue (are_bytes n bytes) → list_all is_byte bytes ≡ true
 all_are n bytes are = second_so (length bytes == n) (list_all is_byte bytes) are

@@ -1,9 +1,8 @@
 -- Table data with a fixed-size header.
 use Rattle.std.specs.Prelude.{◌≡◌, ℕ, List, take, drop}
 use Rattle.font_base.specs.declared.table_data.TableHeader as TableHeader
-use Rattle.font_base.specs.declared.table_data.TableDataRef.{TableDataRef}
-use Rattle.font_base.specs.declared.table_data.SampleHeader.{SampleHeader}
-use Rattle.font_base.specs.BigEndian.{raw_value}
+use Rattle.font_base.specs.{declared.table_data.TableDataRef.TableDataRef}
+use Rattle.font_base.specs.{declared.table_data.SampleHeader.SampleHeader, BigEndian.raw_value}
 
 -- the bytes of a table
 abbrev pub table_bytes : {H : Type 0} {header : TableHeader.Ghosts H} → TableDataRef H header → List ℕ

@@ -2,8 +2,7 @@
 pub mod Laws
 use Rattle.std.proofs.Math.Nat.{mod-lt}
 use Rattle.std.proofs.Common.{ℕ, ◌%◌, ◌^◌, ◌<◌, Bool, List, pos, lit<}
-use Rattle.font_base.specs.Bytes.{numeral, bytes_of}
-use Rattle.font_base.specs.declared.uint24.Uint24.{Uint24}
+use Rattle.font_base.specs.{Bytes.numeral, Bytes.bytes_of, declared.uint24.Uint24.Uint24}
 
 -- the value of a `Uint24`
 abbrev pub uint24_number : Uint24 → ℕ

@@ -3,14 +3,11 @@
 ghost use Rattle.std.specs.Prelude.{◌≡◌, ⊤, ◌↔◌, ◌+◌, ◌-◌, ◌*◌, ◌%◌, ◌<◌, ◌≤◌, Bool, IsTrue};
 ghost use Rattle.std.specs.Prelude.{IsSome, IfSome, IfOk, IfErr, [], length, take, drop, map};
 ghost use Rattle.std.specs.Prelude.{nat_eq, ℕ};
-ghost use Rattle.std.specs.Ordering.{on};
 ghost use Rattle.std.specs.Cmp.{on_per, on_equiv, partial_equiv_from_equiv};
 ghost use Rattle.std.specs.Cmp.Lexicographic.{nat_list_eq_equiv, pointwise};
 ghost use Rattle.std.specs.Iterator.{YieldsFirstBy, YieldsLastBy, UpTo, item_count};
-ghost use Rattle.std.specs.Iterator.SizeHint.{IsWithinCount};
-ghost use Rattle.std.specs.Slice.Iter.{iter_rest};
-ghost use Rattle.font_base.specs.Scalar.{IsValueOf};
-ghost use Rattle.font_base.specs.Elements.{AreRaw};
+ghost use Rattle.std.specs.{Ordering.on, Iterator.SizeHint.IsWithinCount, Slice.Iter.iter_rest};
+ghost use Rattle.font_base.specs.{Scalar.IsValueOf, Elements.AreRaw};
 
 use crate::facts::each_is_byte;
 use crate::raw::{BeByteArray, ByteChunks, Scalar};
@@ -38,8 +35,8 @@ pub struct ScalarArray<'a, T: Scalar> {
 }
 
 impl<'a, T: Scalar> ScalarArray<'a, T> {
-    ghost use Rattle.font_base.specs.Array.{array_bytes, array_len, element_bytes};
-    ghost use Rattle.font_base.specs.Array.{array_elements, elements_left};
+    ghost use Rattle.font_base.specs.Array.{array_bytes, array_len, element_bytes, array_elements};
+    ghost use Rattle.font_base.specs.Array.{elements_left};
 
     /// Creates an array over `data`, or returns `None` if its length is not a multiple of
     /// `RAW_BYTE_LEN`.

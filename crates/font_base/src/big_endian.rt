@@ -1,12 +1,11 @@
 //! Big-endian fields.
 
-ghost use Rattle.std.specs.Prelude.{◌≡◌, ⊤, nat_eq, Some, IsTrue, IsSome, IfSome, IfNone};
-ghost use Rattle.std.specs.Prelude.{◌↔◌, ◌+◌, ◌≤◌, length, take, drop, refl};
+ghost use Rattle.std.specs.Prelude.{◌≡◌, ⊤, nat_eq, Some, IsTrue, IsSome, IfSome, IfNone, ◌↔◌, ◌+◌};
+ghost use Rattle.std.specs.Prelude.{◌≤◌, length, take, drop, refl};
+ghost use Rattle.std.specs.{Ordering.on, Cmp.on_per, Cmp.on_equiv, Cmp.on_total};
+ghost use Rattle.std.specs.{Cmp.partial_equiv_from_equiv, Cmp.partial_order_from_agreeing_total};
+ghost use Rattle.std.specs.{Cmp.Lexicographic.nat_list_eq_equiv, Cmp.Lexicographic.pointwise};
 ghost use Rattle.std.proofs.Common.{rules, ap, sym, ◌∙◌};
-ghost use Rattle.std.specs.Ordering.{on};
-ghost use Rattle.std.specs.Cmp.{on_per, on_equiv, on_total, partial_equiv_from_equiv};
-ghost use Rattle.std.specs.Cmp.{partial_order_from_agreeing_total};
-ghost use Rattle.std.specs.Cmp.Lexicographic.{nat_list_eq_equiv, pointwise};
 ghost use Rattle.std.specs.Hash as fed;
 ghost use Rattle.std.specs.Cmp.Rules.{hashing};
 
@@ -205,8 +204,7 @@ impl<T: Scalar> Hash for BigEndian<T> {
 }
 
 impl<T: Scalar + Copy + Ord + IdentityEq> PartialOrd for BigEndian<T> {
-    ghost use Rattle.font_base.specs.BigEndian.{raw_value};
-    ghost use Rattle.font_base.specs.BigEndian.Laws.{same_answer};
+    ghost use Rattle.font_base.specs.{BigEndian.raw_value, BigEndian.Laws.same_answer};
 
     ghost partial_cmp = { λ a b. Some (T.cmp (T.of_raw (raw_value a)) (T.of_raw (raw_value b))) };
 
@@ -227,8 +225,7 @@ impl<T: Scalar + Copy + Ord + IdentityEq> PartialOrd for BigEndian<T> {
 }
 
 impl<T: Scalar + Copy + Ord + IdentityEq> Ord for BigEndian<T> {
-    ghost use Rattle.font_base.specs.BigEndian.{raw_value};
-    ghost use Rattle.font_base.specs.BigEndian.Laws.{same_answer};
+    ghost use Rattle.font_base.specs.{BigEndian.raw_value, BigEndian.Laws.same_answer};
 
     ghost cmp = { on (λ field. T.of_raw (raw_value field)) T.cmp };
 

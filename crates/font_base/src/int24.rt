@@ -1,9 +1,7 @@
 //! 24-bit signed integers.
 
-ghost use Rattle.std.specs.Prelude.{◌≡◌, ◌≤ℤ◌, ◌<ℤ◌, ◌↔◌, ◌++◌, pos, neg_ℤ};
-ghost use Rattle.std.specs.Prelude.{Some, IsSome, IfSome};
-ghost use Rattle.std.specs.Int.{int_min, int_max};
-ghost use Rattle.std.specs.Fmt.{signed_decimal};
+ghost use Rattle.std.specs.Prelude.{◌≡◌, ◌≤ℤ◌, ◌<ℤ◌, ◌↔◌, ◌++◌, pos, neg_ℤ, Some, IsSome, IfSome};
+ghost use Rattle.std.specs.{Int.int_min, Int.int_max, Fmt.signed_decimal};
 ghost use lib.Chars.{codes};
 
 use crate::raw::{FixedSize, IdentityEq, Scalar};

@@ -1,19 +1,16 @@
 //! Scalars and their big-endian bytes.
 #![tactic(auto, using(crate::proofs::StdBytes::std_bytes))]
 
-ghost use Rattle.std.specs.Prelude.{◌≡◌, ℕ, pos, Bool, List, IsTrue, IsSome, IfSome, IfNone};
-ghost use Rattle.std.specs.Prelude.{◌↔◌, ◌^◌};
-ghost use Rattle.std.specs.Prelude.{◌+◌, ◌%◌, ◌++◌, ◌≤◌, nat_eq, nat_lt, length, take, drop};
+ghost use Rattle.std.specs.Prelude.{◌≡◌, ℕ, pos, Bool, List, IsTrue, IsSome, IfSome, IfNone, ◌↔◌};
+ghost use Rattle.std.specs.Prelude.{◌^◌, ◌+◌, ◌%◌, ◌++◌, ◌≤◌, nat_eq, nat_lt, length, take, drop};
 ghost use Rattle.std.specs.Prelude.{flat_map};
-ghost use Rattle.std.proofs.Common.{rules, lit<};
-ghost use Rattle.std.specs.Bool.{Decides};
 ghost use Rattle.std.specs.Cmp.{signed_Decides, unsigned_Decides};
-ghost use Rattle.std.specs.Cmp.Lexicographic.{pointwise};
-ghost use Rattle.font_base.specs.Wrap.{fits_bits};
+ghost use Rattle.std.specs.{Bool.Decides, Cmp.Lexicographic.pointwise};
+ghost use Rattle.std.proofs.Common.{rules, lit<};
 ghost use Rattle.font_base.specs.Bytes.{are_bytes, numeral, bytes_of, signed_numeral};
-ghost use Rattle.font_base.specs.Elements.{AreRaw};
 ghost use Rattle.font_base.specs.Scalar.{ScalarLaws, IsValueOf};
 ghost use Rattle.font_base.specs.Scalar.Laws.{unsigned_laws, signed_laws};
+ghost use Rattle.font_base.specs.{Wrap.fits_bits, Elements.AreRaw};
 
 use crate::facts::each_is_byte;
 

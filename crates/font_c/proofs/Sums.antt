@@ -1,10 +1,9 @@
 -- A sum of products over two lists of one length, item by item.
-use Rattle.std.proofs.Common.{◌≡◌, ℕ, ◌+◌, ◌<◌, ◌≤◌, List, length, take, get_or, ℤ, pos, ◌+ℤ◌, ◌*ℤ◌, arith}
-use Rattle.std.proofs.Common.{◌*◌, ◌^◌, unsigned_abs, fold}
-use Rattle.std.specs.List.{zip}
-use Rattle.std.proofs.lemmas.List.Sums.{fold_more}
+use Rattle.std.proofs.Common.{◌≡◌, ℕ, ◌+◌, ◌<◌, ◌≤◌, List, length, take, get_or, ℤ, pos, ◌+ℤ◌, ◌*ℤ◌, arith, ◌*◌, ◌^◌}
+use Rattle.std.proofs.Common.{unsigned_abs, fold}
 use Rattle.std.proofs.lemmas.Slice.Zip.{length-zip, get_or-zip}
-use Rattle.std.proofs.lemmas.Grind.{common_steps}
+use Rattle.std.proofs.{lemmas.List.Sums.fold_more, lemmas.Grind.common_steps}
+use Rattle.std.specs.List.{zip}
 use Rattle.font_c.specs.Sums.{sum_of_products}
 
 -- a sum and one product more

@@ -1,13 +1,9 @@
 -- Buffers that are long enough for a decimal.
-use Rattle.std.proofs.Common.{ℕ, ◌<◌, ◌≤◌, ℤ, max, List, length, arith}
-use Rattle.std.proofs.Common.{SFits}
+use Rattle.std.proofs.Common.{ℕ, ◌<◌, ◌≤◌, ℤ, max, List, length, arith, SFits}
 use Rattle.std.specs.Int.{w64}
 use borrow.Author.Differences.{ints, abs_is}
-use Rattle.font_types.specs.Padding.{padded_text, unsigned_body}
-use Rattle.font_types.specs.declared.Pad.{Pad}
-use Rattle.font_types.specs.Shortest.{shortest_text}
-use Rattle.font_decimal.proofs.Padded.{padded_fits}
-use Rattle.font_decimal.proofs.Printed.{length-shortest_body-lt}
+use Rattle.font_types.specs.{Padding.padded_text, Padding.unsigned_body, declared.Pad.Pad, Shortest.shortest_text}
+use Rattle.font_decimal.proofs.{Padded.padded_fits, Printed.length-shortest_body-lt}
 
 -- the text of a 64-bit number has fewer than 22 bytes after its `-`
 pub printed_is_short : (b : ℤ) (f : ℕ) → SFits w64 b → f ≤ 30 → length (unsigned_body (shortest_text b f)) < 22

@@ -1,11 +1,8 @@
 -- Matrices and points of C, by their raw values.
 use Rattle.std.specs.Prelude.{◌≡◌, ◌<◌, ℕ, ℤ, pos, List, length, slice_index_or}
-use Rattle.font_types.specs.matrix.Matrix.{Matrix}
-use Rattle.font_types.specs.point.Point.{Point}
-use Rattle.font_types.specs.Matrix.{image_of, matrix_product}
 use Rattle.font_types.specs.FixedMatrix.{wrapped_sum, wrapped_product}
-use Rattle.font_c.specs.declared.matrix.FontMatrix.{FontMatrix}
-use Rattle.font_c.specs.declared.matrix.FontPoint.{FontPoint}
+use Rattle.font_types.specs.{matrix.Matrix.Matrix, point.Point.Point, Matrix.image_of, Matrix.matrix_product}
+use Rattle.font_c.specs.{declared.matrix.FontMatrix.FontMatrix, declared.matrix.FontPoint.FontPoint}
 
 -- the matrix of raw values with the elements of a matrix of C
 abbrev pub entries : FontMatrix → Matrix ℤ

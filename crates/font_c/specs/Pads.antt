@@ -1,13 +1,8 @@
 -- Padding requested by C. The project's own.
 use Rattle.std.specs.Prelude.{◌≡◌, ◌<◌, ◌≤◌, ℕ, zero, suc, ℤ, List, length, max, Bool, true, false}
-use Rattle.font_types.specs.Padding.{padded_text}
-use Rattle.font_types.specs.Shortest.{shortest_text}
-use Rattle.font_types.specs.declared.Align.{Align}
 use Rattle.font_types.specs.declared.Align.TheVariants.{Left, Center, Right}
-use Rattle.font_types.specs.declared.Pad.{Pad}
-use Rattle.font_c.specs.declared.format.FontPad.{FontPad}
-use Rattle.font_c.specs.Status.{bad_pad}
-use Rattle.font_c.specs.Texts.{WritesText}
+use Rattle.font_types.specs.{Padding.padded_text, Shortest.shortest_text, declared.Align.Align, declared.Pad.Pad}
+use Rattle.font_c.specs.{declared.format.FontPad.FontPad, Status.bad_pad, Texts.WritesText}
 
 -- the alignment is one of three, and the fill is ASCII
 abbrev pub IsPad : FontPad → Type 0

@@ -1,9 +1,8 @@
 -- The result of parsing handed to C: a status, and a place for the raw bits. The project's own.
 use Rattle.std.specs.Prelude.{◌≡◌, ◌≢◌, ◌<◌, ℕ, zero, suc, ℤ, List, Result, Ok, Err}
 use Rattle.std.specs.Int.{Width}
-use Rattle.font_types.specs.DecimalFault.{DecimalFault}
 use Rattle.font_types.specs.DecimalFault.TheVariants.{Syntax, OutOfRange}
-use Rattle.font_types.specs.NumberReading.{ParsesFixedPoint}
+use Rattle.font_types.specs.{DecimalFault.DecimalFault, NumberReading.ParsesFixedPoint}
 
 -- the result that a status and the place mean: 0 the value in the place, 1 not a decimal, and 2 out of range
 abbrev pub result_of : {T : Type 0} → ℕ → T → Result T DecimalFault

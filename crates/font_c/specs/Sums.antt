@@ -3,8 +3,7 @@
 -- units of 2^-16.
 use Rattle.std.specs.Prelude.{◌≡◌, ◌≢◌, ℕ, List, length, ℤ, pos, ◌+ℤ◌, ◌*ℤ◌}
 use Rattle.std.specs.List.{zip}
-use Rattle.font_types.specs.Delta.{total}
-use Rattle.font_types.specs.FWord.{nearest_unit}
+use Rattle.font_types.specs.{Delta.total, FWord.nearest_unit}
 use Rattle.font_c.specs.Status.{count_mismatch, StoresExact}
 
 -- the exact sum of the products, item by item

@@ -1,9 +1,8 @@
 //! Sums of deltas, and what they move.
 
-ghost use Rattle.std.specs.Prelude.{◌≡◌, ◌≢◌, ◌↔◌, IsSome, IfSome, length, pos, ◌+ℤ◌, ◌*ℤ◌};
-ghost use Rattle.std.specs.Prelude.{neg_ℤ, ◌≤ℤ◌, ◌<ℤ◌};
-ghost use Rattle.font_types.specs.F48Dot16.{f48dot16_bits};
-ghost use Rattle.font_types.specs.Wrap.{FitsBits};
+ghost use Rattle.std.specs.Prelude.{◌≡◌, ◌≢◌, ◌↔◌, IsSome, IfSome, length, pos, ◌+ℤ◌, ◌*ℤ◌, neg_ℤ};
+ghost use Rattle.std.specs.Prelude.{◌≤ℤ◌, ◌<ℤ◌};
+ghost use Rattle.font_types.specs.{F48Dot16.f48dot16_bits, Wrap.FitsBits};
 ghost use Rattle.font_c.specs.Sums.{moved_by, StoresSum, sum_of_products};
 ghost use Rattle.font_c.specs.Status.{out_of_range};
 

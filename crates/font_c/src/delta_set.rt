@@ -2,9 +2,7 @@
 
 ghost use Rattle.std.specs.Prelude.{◌≡◌, ◌↔◌, ◌+◌, ◌*◌, ◌^◌, ◌<◌, ◌≤◌, ◌*ℤ◌, length, take, drop};
 ghost use Rattle.std.specs.Prelude.{unsigned_abs, IsSome, IfSome};
-ghost use Rattle.font_types.specs.Bytes.{signed_numeral};
-ghost use Rattle.font_types.specs.F48Dot16.{f48dot16_bits};
-ghost use Rattle.font_types.specs.Wrap.{FitsBits};
+ghost use Rattle.font_types.specs.{Bytes.signed_numeral, F48Dot16.f48dot16_bits, Wrap.FitsBits};
 ghost use Rattle.font_c.specs.DeltaSets.{IsSet, set_sum, StoresSetSum};
 ghost use Rattle.font_c.specs.Status.{count_mismatch, StoresExact};
 

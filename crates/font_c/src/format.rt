@@ -3,9 +3,8 @@
 ghost use Rattle.std.specs.Prelude.{◌≡◌, ◌<◌, ◌≤◌, length, max, MatchResult};
 ghost use Rattle.font_types.specs.Shortest.{shortest_text};
 ghost use Rattle.font_types.specs.Padding.{padded_text, unsigned_body};
-ghost use Rattle.font_c.specs.Texts.{WritesText};
 ghost use Rattle.font_c.specs.Pads.{IsPad, pad_of, WritesPadded};
-ghost use Rattle.font_c.specs.Status.{bad_fraction, IsFraction};
+ghost use Rattle.font_c.specs.{Texts.WritesText, Status.bad_fraction, Status.IsFraction};
 
 use crate::status::{BAD_FRACTION, BAD_PAD, BUFFER_TOO_SMALL, OK, is_fraction};
 use font_types::{Align, Pad, Shortest};

@@ -1,8 +1,8 @@
 //! The bounds of matrices, as contracts of functions that make two calls of exports.
 
 ghost use Rattle.std.specs.Prelude.{◌≡◌};
-ghost use Rattle.font_types.specs.FixedMatrix.{FitsComposed, IsCloseComposed};
-ghost use Rattle.font_types.specs.FixedMatrix.{FitsInTurn, IsCloseInTurn};
+ghost use Rattle.font_types.specs.FixedMatrix.{FitsComposed, IsCloseComposed, FitsInTurn};
+ghost use Rattle.font_types.specs.FixedMatrix.{IsCloseInTurn};
 ghost use Rattle.font_c.specs.Matrices.{coordinates, entries, fixed_image, fixed_matrix_product};
 
 use crate::matrix::{FontMatrix, FontPoint, fty_matrix_image, fty_matrix_product};

@@ -1,7 +1,6 @@
 //! Decimals parsed to raw values.
 
-ghost use Rattle.std.specs.Prelude.{◌≡◌, ◌≢◌, ◌<◌};
-ghost use Rattle.std.specs.Int.{w16, w32, w64};
+ghost use Rattle.std.specs.{Prelude.◌≡◌, Prelude.◌≢◌, Prelude.◌<◌, Int.w16, Int.w32, Int.w64};
 ghost use Rattle.font_c.specs.Readings.{result_of, ParsesInto};
 ghost use Rattle.font_c.specs.Status.{bad_fraction, IsFraction};
 

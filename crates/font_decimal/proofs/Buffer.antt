@@ -3,16 +3,12 @@ use Rattle.std.proofs.Common.{◌≡◌, ℕ, ◌+◌, ◌/◌, ◌%◌, ◌^◌
 use Rattle.std.proofs.Common.{◌∙◌, length-drop, take_all, append_assoc, decimal, take, get_or, set, add-one, suc, zero}
 use Rattle.std.proofs.Common.{drop, sym, ap, replicate, refl, min, ◌*◌, ◌-◌, ◌≢◌, pow_pos, append-nil, ℤ, unsigned_abs}
 use Rattle.std.proofs.Common.{inl, inr, div-le_self, le_trans, pow-suc}
-use Rattle.std.specs.Int.{is_negative}
-use Rattle.std.specs.Fmt.{sign_text}
-use Rattle.std.proofs.Math.Nat.{pow-le-pow_right}
-use Rattle.std.proofs.lemmas.Nat.{one_shl}
-use Rattle.std.proofs.Math.Seq.{take-append-add}
-use Rattle.std.proofs.lemmas.Bool.{cases_lt}
 use Rattle.std.proofs.lemmas.Bool.Decides.{nat_tests}
 use Rattle.std.proofs.lemmas.Fmt.{decimal_digit, decimal_step, length-decimal-le}
 use Rattle.std.proofs.lemmas.List.{drop-set, take-set, take_more, length-set, get_or-set_same, same_from_push}
 use Rattle.std.proofs.lemmas.List.{drop-take, take_at}
+use Rattle.std.proofs.{Math.Nat.pow-le-pow_right, lemmas.Nat.one_shl, Math.Seq.take-append-add, lemmas.Bool.cases_lt}
+use Rattle.std.specs.{Int.is_negative, Fmt.sign_text}
 use Rattle.font_decimal.specs.Grammar.{fraction_text}
 use Rattle.font_decimal.specs.Shortest.{last_digits, nearest_numeral, fewest_places, shortest_text}
 use Rattle.font_decimal.proofs.Fewest.{IsFewest, zero_drops, fewest_is}

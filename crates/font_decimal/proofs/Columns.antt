@@ -2,19 +2,14 @@
 use Rattle.std.proofs.Common.{◌≡◌, ◌∙◌, ap, refl, ℕ, zero, suc, ◌+◌, ◌-◌, ◌<◌, ◌^◌, ◌≤◌, Bool, true, false, List, []}
 use Rattle.std.proofs.Common.{◌∷◌, ◌++◌, length, get_or, arith, ℤ, append-nil, cond, replicate, unsigned_abs}
 use Rattle.std.proofs.Common.{encode_utf8_all, IsAscii}
-use Rattle.std.specs.Str.{trim_start, skip_leading_whitespace}
-use Rattle.std.specs.Char.{is_whitespace, digit_value}
 use Rattle.std.proofs.lemmas.Str.{IsAscii-append, chars-IsAscii, encodes-IsAscii}
 use Rattle.std.proofs.lemmas.Str.Ascii.{IsAscii-cons, IsAscii-nil}
-use Rattle.std.proofs.lemmas.Bool.Decides.{nat_tests}
-use Rattle.std.proofs.lemmas.Str.Parse.{digit_from_value}
-use Rattle.font_decimal.specs.Grammar.{HasParts}
+use Rattle.std.proofs.{lemmas.Bool.Decides.nat_tests, lemmas.Str.Parse.digit_from_value}
+use Rattle.std.specs.{Str.trim_start, Str.skip_leading_whitespace, Char.is_whitespace, Char.digit_value}
 use Rattle.font_decimal.specs.Padding.{padded_text, shown_sign, unsigned_body}
-use Rattle.font_decimal.specs.Shortest.{shortest_text}
-use Rattle.font_decimal.specs.declared.padding.Align.TheVariants.{Right}
 use Rattle.font_decimal.specs.declared.padding.Pad.{Pad}
-use Rattle.font_decimal.proofs.Texts.{decimal_is_ascii}
-use Rattle.font_decimal.proofs.Printed.{shortest_is}
+use Rattle.font_decimal.specs.{Grammar.HasParts, Shortest.shortest_text, declared.padding.Align.TheVariants.Right}
+use Rattle.font_decimal.proofs.{Texts.decimal_is_ascii, Printed.shortest_is}
 
 -- spaces are white space, and digits and signs are not
 digit_is_visible : (c : ℕ) → digit_value c < 10 → is_whitespace c ≡ false

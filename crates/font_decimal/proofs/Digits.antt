@@ -1,14 +1,12 @@
 -- The number of digits that are joined or split.
-use Rattle.std.proofs.Common.{◌≡◌, ℕ, zero, suc, ◌+◌, ◌-◌, ◌*◌, ◌^◌, ◌<◌, ◌≤◌, List, [], ◌∷◌, ◌++◌}
-use Rattle.std.proofs.Common.{length, take, drop, refl, ◌∙◌, arith, rules, get_or}
-use Rattle.std.proofs.Common.{true, pow-add, length-take, pow-suc, mul-lt-mul_of_pos_right}
-use Rattle.std.specs.Str.Parse.{digits_value, digits_value_after, AllDigits}
-use Rattle.std.specs.Char.{digit_value, is_ascii_digit, IsAsciiDigit}
-use Rattle.std.specs.List.{list_all}
-use Rattle.std.proofs.Math.Nat.{one-le-pow}
+use Rattle.std.proofs.Common.{◌≡◌, ℕ, zero, suc, ◌+◌, ◌-◌, ◌*◌, ◌^◌, ◌<◌, ◌≤◌, List, [], ◌∷◌, ◌++◌, length, take, drop}
+use Rattle.std.proofs.Common.{refl, ◌∙◌, arith, rules, get_or, true, pow-add, length-take, pow-suc}
+use Rattle.std.proofs.Common.{mul-lt-mul_of_pos_right}
 use Rattle.std.proofs.lemmas.Int.Digits.{digits_value-lt, digits_value_more}
-use Rattle.std.proofs.lemmas.Str.{digit_value_digit}
 use Rattle.std.proofs.lemmas.Str.Parse.{IsNumeralModel, numerals_by_value, tells_digits, digits_value_short}
+use Rattle.std.proofs.{Math.Nat.one-le-pow, lemmas.Str.digit_value_digit}
+use Rattle.std.specs.Char.{digit_value, is_ascii_digit, IsAsciiDigit}
+use Rattle.std.specs.{Str.Parse.digits_value, Str.Parse.digits_value_after, Str.Parse.AllDigits, List.list_all}
 
 -- digits after a number multiply it by ten for each digit
 pub after_is : (n : ℕ) (cs : List ℕ) → digits_value_after 10 n cs ≡ n * 10 ^ length cs + digits_value 10 cs

@@ -2,11 +2,9 @@
 use Rattle.std.proofs.Common.{◌≡◌, ◌≢◌, ℕ, zero, suc, ◌+◌, ◌-◌, ◌*◌, ◌/◌, ◌%◌, ◌^◌, ◌<◌, ◌≤◌, inl, inr, true, false, ℤ}
 use Rattle.std.proofs.Common.{pos, refl, sym, ap, ◌∙◌, arith, below_more, ◌*ℤ◌, unsigned_abs, pow-suc, lt-ltb, ltb-true}
 use Rattle.std.proofs.Common.{ltb-false, pow_pos, pow-add}
-use Rattle.std.proofs.lemmas.Bool.Decides.{nat_tests}
+use Rattle.std.proofs.{lemmas.Bool.Decides.nat_tests, Math.Nat.mul-sub, Math.Nat.eq_of_mul-eq-mul_left}
+use Rattle.std.proofs.{lemmas.Bool.cases_lt, lemmas.Bool.cases_order, lemmas.Bool.cond_both, lemmas.Nat.mul-pow}
 use Rattle.std.specs.Int.{abs_diff}
-use Rattle.std.proofs.Math.Nat.{mul-sub, eq_of_mul-eq-mul_left}
-use Rattle.std.proofs.lemmas.Bool.{cases_lt, cases_order, cond_both}
-use Rattle.std.proofs.lemmas.Nat.{mul-pow}
 use Rattle.font_decimal.specs.Near.{Near}
 use Rattle.font_decimal.specs.Shortest.{nearest_numeral, reads_back, places_from, fewest_places}
 use Rattle.font_decimal.proofs.Near.{IsNearMagnitude, rounded_is, next_product}

@@ -1,8 +1,6 @@
 -- Products of integers, which std lacks: with an opposite, with the next number, in order, and by two factors.
 use Rattle.std.proofs.Common.{◌≡◌, ℕ, suc, ◌*◌, ℤ, pos, negsuc, arith, neg_ℤ, ◌+ℤ◌, ◌*ℤ◌, ◌≤ℤ◌, mul-le-mul_right}
-use Rattle.std.proofs.lemmas.Bool.Decides.{nat_tests}
-use Rattle.std.proofs.Math.IntN.{+ℤ_one, suc_ℤ-*ℤ}
-use Rattle.std.proofs.lemmas.Int.{ints}
+use Rattle.std.proofs.{lemmas.Bool.Decides.nat_tests, Math.IntN.+ℤ_one, Math.IntN.suc_ℤ-*ℤ, lemmas.Int.ints}
 
 pub neg-times : (q : ℤ) (d : ℕ) → neg_ℤ q *ℤ pos d ≡ neg_ℤ (q *ℤ pos d)
 neg-times q d = grind (arith, nat_tests)

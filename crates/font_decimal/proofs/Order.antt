@@ -2,15 +2,10 @@
 use Rattle.std.proofs.Common.{◌≡◌, sym, ap, subst, ℕ, ◌^◌, ◌≤◌, List, ℤ, pos, ◌*ℤ◌, ◌≤ℤ◌, Result, Ok, unsigned_abs}
 use Rattle.std.proofs.Common.{arith}
 use Rattle.std.proofs.lemmas.Int.{ints, by_lt_z}
-use Rattle.font_decimal.specs.Grammar.{Decimal}
-use Rattle.font_decimal.specs.Shortest.{shortest_text}
-use Rattle.font_decimal.proofs.Printed.{shortest_is}
 use Rattle.font_decimal.specs.Reading.{Rounds, Parses, IsAtMost}
-use Rattle.font_decimal.specs.declared.reader.DecimalFault.{DecimalFault}
+use Rattle.font_decimal.specs.{Grammar.Decimal, Shortest.shortest_text, declared.reader.DecimalFault.DecimalFault}
 use Rattle.font_decimal.proofs.Integers.{swap_factors, times_monotone}
-use Rattle.font_decimal.proofs.Near.{near_monotone}
-use Rattle.font_decimal.proofs.Texts.{decimal_unique}
-use Rattle.font_decimal.proofs.Powers.{ten_pos}
+use Rattle.font_decimal.proofs.{Printed.shortest_is, Near.near_monotone, Texts.decimal_unique, Powers.ten_pos}
 
 -- of two texts, the one of greater decimal value never parses as the smaller number
 pub rounds_in_order : {s t : List ℕ} {f : ℕ} {a b : ℤ} → IsAtMost s t → Rounds s f a → Rounds t f b → a ≤ℤ b

@@ -2,13 +2,11 @@
 use Rattle.std.proofs.Common.{◌≡◌, ◌≢◌, ℕ, ◌+◌, ◌<◌, ◌≤◌, Bool, false, List, [], ◌∷◌, ◌++◌, length, get_or, take, drop}
 use Rattle.std.proofs.Common.{refl, sym, ◌∙◌, arith, append_assoc, length-append, max, None, append-nil, take_at}
 use Rattle.std.proofs.Common.{drop_at, drop-drop, eqb}
-use Rattle.std.proofs.lemmas.Bool.Decides.{nat_tests}
-use Rattle.std.specs.Str.Pattern.{FindsCharPrefix}
 use Rattle.std.proofs.lemmas.List.{drop_all, length-replicate}
-use Rattle.std.proofs.lemmas.Str.Pattern.{strip_prefix_char}
+use Rattle.std.proofs.{lemmas.Bool.Decides.nat_tests, lemmas.Str.Pattern.strip_prefix_char}
+use Rattle.std.specs.Str.Pattern.{FindsCharPrefix}
 use Rattle.font_decimal.specs.Padding.{shown_sign, unsigned_body, spare_in_front, laid_out, padded_text, FillsFront}
-use Rattle.font_decimal.specs.declared.padding.Align.{Align}
-use Rattle.font_decimal.specs.declared.padding.Pad.{Pad}
+use Rattle.font_decimal.specs.{declared.padding.Align.Align, declared.padding.Pad.Pad}
 
 -- a text that does not begin with `-`
 no_minus_test : (text : List ℕ) → ((rest : List ℕ) → text ≢ 45 ∷ rest) → eqb (get_or text 0 0) 45 ≡ false

@@ -2,9 +2,7 @@
 use Rattle.std.proofs.Common.{◌≡◌, ◌≢◌, ℕ, zero, suc, ◌<◌, ◌≤◌, Bool, true, false, List, [], ◌∷◌, ◌++◌, length, get_or}
 use Rattle.std.proofs.Common.{take, drop, refl, arith, take-append-drop, length-take-le}
 use Rattle.std.proofs.lemmas.Bool.Decides.{nat_tests}
-use Rattle.std.specs.Str.Parse.{AllDigits}
-use Rattle.std.specs.Char.{digit_value}
-use Rattle.std.specs.Fmt.{sign_text}
+use Rattle.std.specs.{Str.Parse.AllDigits, Char.digit_value, Fmt.sign_text}
 use Rattle.font_decimal.specs.Grammar.{fraction_text, HasParts, IsNoDecimal}
 use Rattle.font_decimal.proofs.Texts.{no_minus}
 

@@ -3,14 +3,11 @@ use Rattle.std.proofs.Common.{◌≡◌, ℕ, zero, suc, ◌+◌, ◌-◌, ◌*�
 use Rattle.std.proofs.Common.{refl, inl, inr, get_or, arith, pow-add, sym, ◌∙◌, pow_pos, ap, List, ◌++◌, length}
 use Rattle.std.proofs.Common.{length-append, ◌⊎◌, [], mul-lt-mul_of_pos_right, append-nil, min, take, drop}
 use Rattle.std.proofs.Common.{length-take-le, take-append-drop}
-use Rattle.std.specs.Str.Parse.{digits_value, AllDigits}
 use Rattle.std.proofs.Math.Nat.{mul-div-mul_right, one-le-pow, div-div-eq-div-mul, add-mul-div_left, div-eq_of_lt}
-use Rattle.std.proofs.lemmas.Nat.{mul-pow, div_below}
-use Rattle.std.proofs.lemmas.Int.Digits.{digits_value-lt}
-use Rattle.std.proofs.lemmas.List.{drop_all}
-use Rattle.std.proofs.lemmas.Bool.{cases_lt, and_parts}
-use Rattle.font_decimal.specs.Reading.{HasUnits}
-use Rattle.font_decimal.specs.declared.reader.TheConstants.{TENS}
+use Rattle.std.proofs.{lemmas.Nat.mul-pow, lemmas.Nat.div_below, lemmas.Int.Digits.digits_value-lt}
+use Rattle.std.proofs.{lemmas.List.drop_all, lemmas.Bool.cases_lt, lemmas.Bool.and_parts}
+use Rattle.std.specs.Str.Parse.{digits_value, AllDigits}
+use Rattle.font_decimal.specs.{Reading.HasUnits, declared.reader.TheConstants.TENS}
 use Rattle.font_decimal.proofs.Digits.{digits-append, digits_value-append}
 
 pub ten_pos : (k : ℕ) → 0 < 10 ^ k

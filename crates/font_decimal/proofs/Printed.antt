@@ -5,31 +5,21 @@ use Rattle.std.proofs.Common.{get_or, lit<, ℤ, pos, refl, sym, ap, subst, ◌�
 use Rattle.std.proofs.Common.{unsigned_abs, pow_pos, pow-add, append-nil, ◌≢◌, true, List, append_assoc, length-append}
 use Rattle.std.proofs.Common.{◌≤ℤ◌, Result, Ok, decimal, mul-le-mul_right, pow-suc, div-mul-le_self, div-add-mod'}
 use Rattle.std.proofs.Common.{le-mul_of_pos_right, mul-le-mul_left, lt_of_mul-lt-mul_right, div-one, lt_of_le_of_lt}
-use Rattle.std.proofs.lemmas.Bool.Decides.{nat_tests}
-use Rattle.std.specs.Int.{is_negative, abs_diff}
-use Rattle.std.specs.Fmt.{sign_text}
-use Rattle.std.specs.Str.Parse.{digits_value, AllDigits}
-use Rattle.std.specs.Char.{digit_value}
 use Rattle.std.proofs.Math.Nat.{div-div-eq-div-mul, pow-le-pow_right}
-use Rattle.std.proofs.lemmas.Int.{ints}
-use Rattle.std.proofs.lemmas.Str.{digit_value_digit}
 use Rattle.std.proofs.lemmas.Fmt.{decimal_is_IsNumeral, decimal_digit, first_decimal, length-decimal-le}
-use Rattle.font_decimal.specs.Near.{signed, Near}
-use Rattle.font_decimal.specs.Grammar.{fraction_text, Decimal, HasParts}
-use Rattle.font_decimal.specs.Shortest.{IsShortest, nearest_numeral, fewest_places, last_digits, decimal_text}
-use Rattle.font_decimal.specs.Shortest.{shortest_text}
-use Rattle.font_decimal.proofs.Near.{near_from, sign_and_magnitude, signed_times}
-use Rattle.font_decimal.proofs.Digits.{after_is, digits_value-append}
-use Rattle.font_decimal.proofs.Powers.{ten_pos}
-use Rattle.font_decimal.proofs.Readings.{rounds_unique, reading_unique}
+use Rattle.std.proofs.{lemmas.Bool.Decides.nat_tests, lemmas.Int.ints, lemmas.Str.digit_value_digit}
+use Rattle.std.proofs.{lemmas.List.same_from_push, lemmas.Str.Parse.digit_from_value}
+use Rattle.std.specs.Str.Parse.{digits_value, AllDigits}
+use Rattle.std.specs.{Int.is_negative, Int.abs_diff, Fmt.sign_text, Char.digit_value}
+use Rattle.font_decimal.specs.{Near.signed, Near.Near, Grammar.fraction_text, Grammar.Decimal, Grammar.HasParts}
+use Rattle.font_decimal.specs.{Shortest.IsShortest, Shortest.nearest_numeral, Shortest.fewest_places}
+use Rattle.font_decimal.specs.{Shortest.last_digits, Shortest.decimal_text, Shortest.shortest_text, Reading.Rounds}
+use Rattle.font_decimal.specs.{Reading.Parses, Padding.unsigned_body, declared.reader.DecimalFault.DecimalFault}
 use Rattle.font_decimal.proofs.Fewest.{fewest_is, within_half, none_fewer, unit_is_below, rounded_at, IsFewest}
 use Rattle.font_decimal.proofs.Fewest.{zero_drops}
-use Rattle.std.proofs.lemmas.List.{same_from_push}
-use Rattle.std.proofs.lemmas.Str.Parse.{digit_from_value}
-use Rattle.font_decimal.specs.Reading.{Rounds, Parses}
-use Rattle.font_decimal.specs.Padding.{unsigned_body}
-use Rattle.font_decimal.specs.declared.reader.DecimalFault.{DecimalFault}
-use Rattle.font_decimal.proofs.Texts.{same_parts, decimal_unique, decimal_of}
+use Rattle.font_decimal.proofs.{Near.near_from, Near.sign_and_magnitude, Near.signed_times, Digits.after_is}
+use Rattle.font_decimal.proofs.{Digits.digits_value-append, Powers.ten_pos, Readings.rounds_unique}
+use Rattle.font_decimal.proofs.{Readings.reading_unique, Texts.same_parts, Texts.decimal_unique, Texts.decimal_of}
 
 pub last_length : (p n : ℕ) → length (last_digits p n) ≡ p
 last_length zero n = refl

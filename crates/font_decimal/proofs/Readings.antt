@@ -1,19 +1,14 @@
 -- Each text has exactly one result: a value, out of range, or not a decimal.
 use Rattle.std.proofs.Common.{◌≡◌, ℕ, ◌+◌, ◌*◌, ◌/◌, ◌^◌, ◌<◌, ◌↔◌, ◌⊎◌, Bool, List, ◌++◌, length, min, ℤ, refl, ap}
 use Rattle.std.proofs.Common.{arith, Option, Result, Ok, Err, SomeIff, FitsSigned, ◌≤ℤ◌, ok_or, w64, pow-add}
-use Rattle.std.proofs.lemmas.Bool.Decides.{nat_tests}
+use Rattle.std.proofs.{lemmas.Bool.Decides.nat_tests, lemmas.Int.ints}
 use Rattle.std.specs.Str.Parse.{digits_value}
-use Rattle.std.proofs.lemmas.Int.{ints}
-use Rattle.font_decimal.specs.Near.{signed}
-use Rattle.font_decimal.specs.Grammar.{HasParts}
 use Rattle.font_decimal.specs.Reading.{Rounds, Reads, IsOutOfRange, Parses}
-use Rattle.font_decimal.specs.declared.reader.DecimalFault.{DecimalFault}
 use Rattle.font_decimal.specs.declared.reader.DecimalFault.TheVariants.{Syntax, OutOfRange}
+use Rattle.font_decimal.specs.{Near.signed, Grammar.HasParts, declared.reader.DecimalFault.DecimalFault}
 use Rattle.font_decimal.proofs.Near.{near_from, near_unique, signed_times}
 use Rattle.font_decimal.proofs.Texts.{decimal_of, decimal_unique}
-use Rattle.font_decimal.proofs.Digits.{digits_value-append}
-use Rattle.font_decimal.proofs.Rounding.{half_units_halved}
-use Rattle.font_decimal.proofs.Powers.{ten_pos}
+use Rattle.font_decimal.proofs.{Digits.digits_value-append, Rounding.half_units_halved, Powers.ten_pos}
 
 -- a text rounds to one number
 pub rounds_unique : (text : List ℕ) (f : ℕ) (b c : ℤ) → Rounds text f b → Rounds text f c → b ≡ c

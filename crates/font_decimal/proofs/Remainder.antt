@@ -1,9 +1,8 @@
 -- The remainder of a value m / 2^f after its first p places.
 use Rattle.std.proofs.Common.{◌≡◌, ℕ, ◌+◌, ◌-◌, ◌*◌, ◌/◌, ◌%◌, ◌^◌, ◌<◌, ◌≤◌, false, inl, inr, arith, add-one, min}
 use Rattle.std.proofs.Common.{lt-ltb, le-ltb, pow_pos, pow-suc, div-add-mod', mul-le-mul_right, div-mul-le_self}
+use Rattle.std.proofs.{lemmas.Bool.cases_lt, lemmas.Nat.div_below, lemmas.Nat.div-mul-add}
 use Rattle.std.specs.Int.{abs_diff}
-use Rattle.std.proofs.lemmas.Bool.{cases_lt}
-use Rattle.std.proofs.lemmas.Nat.{div_below, div-mul-add}
 use Rattle.font_decimal.specs.Shortest.{nearest_numeral, reads_back}
 use Rattle.font_decimal.proofs.Near.{near_magnitude_unique, next_product}
 use Rattle.font_decimal.proofs.Fewest.{IsFewest, within_half, rounded_at}

@@ -1,8 +1,7 @@
 -- The half units of a fraction decide how it is rounded.
-use Rattle.std.proofs.Common.{◌≡◌, ℕ, ◌+◌, ◌-◌, ◌*◌, ◌/◌, ◌%◌, ◌^◌, ◌<◌, ◌≤◌, ◌⊎◌, inl, inr, min, ap, arith}
-use Rattle.std.proofs.Common.{pow-add, pow_pos, mul-le-mul_right, div-mul-le_self}
-use Rattle.std.proofs.Math.Nat.{pow-le-pow_right, lt-div-mul-add}
-use Rattle.std.proofs.lemmas.Bool.{cases_lt}
+use Rattle.std.proofs.Common.{◌≡◌, ℕ, ◌+◌, ◌-◌, ◌*◌, ◌/◌, ◌%◌, ◌^◌, ◌<◌, ◌≤◌, ◌⊎◌, inl, inr, min, ap, arith, pow-add}
+use Rattle.std.proofs.Common.{pow_pos, mul-le-mul_right, div-mul-le_self}
+use Rattle.std.proofs.{Math.Nat.pow-le-pow_right, Math.Nat.lt-div-mul-add, lemmas.Bool.cases_lt}
 use Rattle.font_decimal.proofs.Near.{IsNearMagnitude}
 
 -- half of the half units of value / k, rounded up, is the nearest number of units

@@ -1,15 +1,10 @@
 -- A decimal text has its parts in one way only, and so is one number.
 use Rattle.std.proofs.Common.{◌≡◌, ℕ, ◌<◌, Bool, true, false, List, [], ◌∷◌, ◌++◌, length, ℤ, refl, sym, ap, arith}
 use Rattle.std.proofs.Common.{IsAscii, IsUtf8}
-use Rattle.std.proofs.lemmas.Bool.Decides.{nat_tests}
-use Rattle.std.specs.Fmt.{sign_text}
-use Rattle.std.specs.Str.Parse.{digits_value, AllDigits}
-use Rattle.std.specs.Char.{digit_value}
-use Rattle.std.proofs.lemmas.Str.{IsAscii-append, IsUtf8-from_ascii}
-use Rattle.std.proofs.lemmas.Str.Ascii.{IsAscii-cons, IsAscii-nil}
-use Rattle.std.proofs.lemmas.Fmt.{IsAscii-from_digits}
-use Rattle.font_decimal.specs.Near.{signed}
-use Rattle.font_decimal.specs.Grammar.{fraction_text, HasParts, Decimal}
+use Rattle.std.proofs.{lemmas.Bool.Decides.nat_tests, lemmas.Str.IsAscii-append, lemmas.Str.IsUtf8-from_ascii}
+use Rattle.std.proofs.{lemmas.Str.Ascii.IsAscii-cons, lemmas.Str.Ascii.IsAscii-nil, lemmas.Fmt.IsAscii-from_digits}
+use Rattle.std.specs.{Fmt.sign_text, Str.Parse.digits_value, Str.Parse.AllDigits, Char.digit_value}
+use Rattle.font_decimal.specs.{Near.signed, Grammar.fraction_text, Grammar.HasParts, Grammar.Decimal}
 
 -- a fraction is determined by its text
 pub same_point : (e g : List ℕ) → fraction_text e ≡ fraction_text g → e ≡ g

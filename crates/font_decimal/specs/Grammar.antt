@@ -1,8 +1,7 @@
 -- Decimals: an optional `-`, one or more digits, and optionally a point followed by one or more digits. No plus sign,
 -- exponent or space. This is the project's own textual form of a fixed-point number.
 use Rattle.std.specs.Prelude.{◌≡◌, ℕ, ◌↔◌, Bool, IsTrue, List, [], ◌∷◌, ◌++◌, length, slice_index, ℤ, pos, ◌<ℤ◌}
-use Rattle.std.specs.Fmt.{sign_text}
-use Rattle.std.specs.Str.Parse.{digits_value, AllDigits, IsNumeral}
+use Rattle.std.specs.{Fmt.sign_text, Str.Parse.digits_value, Str.Parse.AllDigits, Str.Parse.IsNumeral}
 use Rattle.font_decimal.specs.Near.{signed}
 
 -- the fraction as written: nothing if it has no digits, otherwise a point and its digits

@@ -1,9 +1,8 @@
 -- Padding a decimal to a width. These rules are the project's own.
 use Rattle.std.specs.Prelude.{◌≡◌, ℕ, ◌+◌, ◌-◌, ◌/◌, Bool, List, [], ◌∷◌, ◌++◌, length, drop, replicate, slice_index}
 use Rattle.std.specs.Prelude.{◌==◌, if◌then◌else◌}
-use Rattle.font_decimal.specs.declared.padding.Align.{Align}
 use Rattle.font_decimal.specs.declared.padding.Align.TheVariants.{Left, Right, Center}
-use Rattle.font_decimal.specs.declared.padding.Pad.{Pad}
+use Rattle.font_decimal.specs.{declared.padding.Align.Align, declared.padding.Pad.Pad}
 
 -- the sign to write: the text's own `-`, otherwise a `+` if requested
 abbrev pub shown_sign : Bool → List ℕ → List ℕ

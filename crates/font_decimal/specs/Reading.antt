@@ -1,11 +1,9 @@
 -- Parsing a decimal as a multiple of 1 / 2^f.
-use Rattle.std.specs.Prelude.{◌≡◌, ℕ, ◌*◌, ◌/◌, ◌^◌, ◌⊎◌, List, length, ℤ, pos, ◌*ℤ◌, ◌≤ℤ◌, ◌<ℤ◌}
-use Rattle.std.specs.Prelude.{Result, Ok, Err}
+use Rattle.std.specs.Prelude.{◌≡◌, ℕ, ◌*◌, ◌/◌, ◌^◌, ◌⊎◌, List, length, ℤ, pos, ◌*ℤ◌, ◌≤ℤ◌, ◌<ℤ◌, Result, Ok, Err}
 use Rattle.std.specs.Str.Parse.{digits_value, AllDigits}
-use Rattle.font_decimal.specs.Near.{Near}
 use Rattle.font_decimal.specs.Grammar.{Decimal, IsNoDecimal}
-use Rattle.font_decimal.specs.declared.reader.DecimalFault.{DecimalFault}
 use Rattle.font_decimal.specs.declared.reader.DecimalFault.TheVariants.{Syntax, OutOfRange}
+use Rattle.font_decimal.specs.{Near.Near, declared.reader.DecimalFault.DecimalFault}
 
 -- the text is a decimal that rounds to b / 2^f, half away from zero
 pub record Rounds (text : List ℕ) (f : ℕ) (b : ℤ) : Type 0 where

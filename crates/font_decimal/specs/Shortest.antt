@@ -1,11 +1,8 @@
 -- The shortest decimal of b / 2^f: of all that parse back to b, the nearest with the fewest fractional digits.
 use Rattle.std.specs.Prelude.{ℕ, zero, suc, ◌+◌, ◌*◌, ◌/◌, ◌%◌, ◌^◌, ◌<◌, Bool, List, [], ◌∷◌, ◌++◌, ℤ, pos, ◌*ℤ◌}
 use Rattle.std.specs.Prelude.{unsigned_abs, nat_lt, if◌then◌else◌}
-use Rattle.std.specs.Int.{is_negative, abs_diff}
-use Rattle.std.specs.Fmt.{decimal, sign_text}
-use Rattle.font_decimal.specs.Near.{Near, near_magnitude}
-use Rattle.font_decimal.specs.Grammar.{Plain, fraction_text}
-use Rattle.font_decimal.specs.Reading.{Rounds}
+use Rattle.std.specs.{Int.is_negative, Int.abs_diff, Fmt.decimal, Fmt.sign_text}
+use Rattle.font_decimal.specs.{Near.Near, Near.near_magnitude, Grammar.Plain, Grammar.fraction_text, Reading.Rounds}
 
 -- the text is plain and parses back to b; no decimal with as many places is nearer to b / 2^f; and no decimal with
 -- fewer places, however it is written, rounds to b

@@ -1,9 +1,7 @@
 //! The parts of a decimal.
 
 ghost use Rattle.std.specs.Prelude.{◌≡◌, ◌≢◌, ℕ, false, List, ◌∷◌, ◌++◌, MatchOption};
-ghost use Rattle.std.specs.Fmt.{sign_text};
-ghost use Rattle.std.specs.Char.{is_ascii_digit};
-ghost use Rattle.std.specs.List.{list_all};
+ghost use Rattle.std.specs.{Fmt.sign_text, Char.is_ascii_digit, List.list_all};
 ghost use Rattle.font_decimal.specs.Grammar.{fraction_text};
 
 // Splits off a leading `-`.

@@ -2,8 +2,7 @@
 
 ghost use Rattle.std.specs.Prelude.{◌≡◌, ◌≤◌, ℤ, ◌≤ℤ◌};
 ghost use Rattle.font_decimal.specs.Reading.{Parses, IsAtMost};
-ghost use Rattle.font_decimal.specs.Shortest.{shortest_text};
-ghost use Rattle.font_decimal.specs.Shown.{shown};
+ghost use Rattle.font_decimal.specs.{Shortest.shortest_text, Shown.shown};
 
 use crate::{DecimalFault, Shortest, read_decimal};
 

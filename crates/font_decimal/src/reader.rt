@@ -1,14 +1,12 @@
 //! Parsing a decimal as the nearest fixed-point number.
 
-ghost use Rattle.std.specs.Prelude.{◌≡◌, ◌+◌, ◌-◌, ◌*◌, ◌^◌, ◌<◌, ◌≤◌, ◌≤ℤ◌, ◌⊎◌, ◌↔◌, ◌++◌};
-ghost use Rattle.std.specs.Prelude.{ℕ, ℤ, Bool, false, List, length, min, slice_index, take};
-ghost use Rattle.std.specs.Prelude.{SomeIff, IfSome, IfNone, MatchOption};
-ghost use Rattle.std.specs.Fmt.{sign_text};
-ghost use Rattle.std.specs.Char.{digit_value};
+ghost use Rattle.std.specs.Prelude.{◌≡◌, ◌+◌, ◌-◌, ◌*◌, ◌^◌, ◌<◌, ◌≤◌, ◌≤ℤ◌, ◌⊎◌, ◌↔◌, ◌++◌, ℕ, ℤ};
+ghost use Rattle.std.specs.Prelude.{Bool, false, List, length, min, slice_index, take, SomeIff};
+ghost use Rattle.std.specs.Prelude.{IfSome, IfNone, MatchOption};
 ghost use Rattle.std.specs.Str.Parse.{digits_value, AllDigits};
-ghost use Rattle.font_decimal.specs.Near.{signed};
-ghost use Rattle.font_decimal.specs.Grammar.{HasParts, IsNoDecimal};
+ghost use Rattle.std.specs.{Fmt.sign_text, Char.digit_value};
 ghost use Rattle.font_decimal.specs.Reading.{Rounds, Reads, IsOutOfRange, Parses, HasUnits};
+ghost use Rattle.font_decimal.specs.{Near.signed, Grammar.HasParts, Grammar.IsNoDecimal};
 
 use crate::grammar::{after_point, are_digits, split_sign};
 use thiserror::Error;

@@ -3,8 +3,7 @@
 
 ghost use Rattle.std.specs.Prelude.{◌≡◌, ◌+◌, ◌-◌, ◌/◌, ◌%◌, ◌≤◌, ◌<◌, ◌∷◌, ◌++◌, length, take};
 ghost use Rattle.std.specs.Prelude.{drop, Some};
-ghost use Rattle.std.specs.Str.{IsAscii};
-ghost use Rattle.std.specs.Fmt.{decimal, sign_text};
+ghost use Rattle.std.specs.{Str.IsAscii, Fmt.decimal, Fmt.sign_text};
 ghost use Rattle.font_decimal.specs.Shortest.{fewest_places, nearest_numeral, last_digits};
 
 use std::fmt;
@@ -30,8 +29,7 @@ pub struct Shortest {
 }
 
 impl Shortest {
-    ghost use Rattle.font_decimal.specs.Shortest.{IsShortest, shortest_text};
-    ghost use Rattle.font_decimal.specs.Shown.{shown};
+    ghost use Rattle.font_decimal.specs.{Shortest.IsShortest, Shortest.shortest_text, Shown.shown};
 
     /// Formats the raw value `bits` with `f` fraction bits, at most 30: of 0, an integer. For a
     /// value of a type, use its `to_decimal`.

@@ -1,11 +1,9 @@
 -- Sums and products with 0 and with 1, for callers, as equations of `wrap` and `near`.
 use Rattle.std.proofs.Common.{◌≡◌, sym, ℕ, ◌<◌, ℤ, pos, ◌+ℤ◌, ◌-ℤ◌, ◌*ℤ◌, arith, w16, w32, w64, SFits}
-use Rattle.std.proofs.lemmas.Int.{ints}
-use Rattle.std.proofs.Math.IntN.{*ℤ_comm, +ℤ-neg_ℤ_cancel, -ℤ-+ℤ_cancel}
+use Rattle.std.proofs.{lemmas.Int.ints, Math.IntN.*ℤ_comm, Math.IntN.+ℤ-neg_ℤ_cancel, Math.IntN.-ℤ-+ℤ_cancel}
 use Rattle.std.specs.Int.{Width}
 use mir.Val.{bits}
-use Rattle.font_base.specs.Wrap.{wrap}
-use Rattle.font_base.specs.Wrap.Laws.{wrap-fits, wrap-add_left}
+use Rattle.font_base.specs.{Wrap.wrap, Wrap.Laws.wrap-fits, Wrap.Laws.wrap-add_left}
 use Rattle.font_base.proofs.Widths.{signed_fits, bits_positive}
 use Rattle.font_decimal.specs.Near.{near}
 use Rattle.font_decimal.proofs.Near.{near_gives}

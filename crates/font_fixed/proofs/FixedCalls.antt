@@ -1,12 +1,10 @@
 -- Rules for callers of `Fixed`: products and quotients by 0, by 1 and by -1, sums with 0, differences, a number over
 -- itself, a part of a whole, `mul_div`, and wrapping of a number that fits.
-use Rattle.std.proofs.Common.{◌≡◌, ◌≢◌, ◌∙◌, ap, refl, arith, lit<, lit≤, ℤ, pos, negsuc, neg_ℤ, ◌+ℤ◌, ◌-ℤ◌, ◌*ℤ◌}
-use Rattle.std.proofs.Common.{◌≤ℤ◌, w32, SFits}
-use Rattle.std.proofs.lemmas.Int.{ints}
-use Rattle.std.proofs.Math.IntN.{*ℤ_comm}
+use Rattle.std.proofs.Common.{◌≡◌, ◌≢◌, ◌∙◌, ap, refl, arith, lit<, lit≤, ℤ, pos, negsuc, neg_ℤ, ◌+ℤ◌, ◌-ℤ◌, ◌*ℤ◌, ◌≤ℤ◌}
+use Rattle.std.proofs.Common.{w32, SFits}
+use Rattle.std.proofs.{lemmas.Int.ints, Math.IntN.*ℤ_comm}
 use Rattle.font_base.proofs.Widths.{signed_fits}
-use Rattle.font_base.specs.Wrap.{wrap, FitsBits}
-use Rattle.font_base.specs.Wrap.Laws.{wrap-add_right, wrap-wrap}
+use Rattle.font_base.specs.{Wrap.wrap, Wrap.FitsBits, Wrap.Laws.wrap-add_right, Wrap.Laws.wrap-wrap}
 use Rattle.font_decimal.specs.Near.{near}
 use Rattle.font_fixed.specs.Operations.{IsQuotient, IsMulDiv, floor_of, fract_of}
 use Rattle.font_fixed.proofs.Calls.{near-times, near-times_left, near-times_zero, near-zero_times, fits_32, calls_32}

@@ -2,13 +2,9 @@
 use Rattle.std.proofs.Common.{◌≡◌, ◌∙◌, sym, ap, ℕ, ◌+◌, ◌-◌, ◌*◌, ◌/◌, ◌%◌, ◌^◌, ◌<◌, ℤ, pos, neg_ℤ, ◌+ℤ◌, ◌-ℤ◌, ◌*ℤ◌}
 use Rattle.std.proofs.Common.{arith, div-add-mod', pow-add, Bool, cond}
 use Rattle.std.proofs.lemmas.Int.{ints}
-use Rattle.font_base.specs.Integers.{sum-times, product-times}
-use Rattle.font_base.specs.Wrap.{wrap}
-use Rattle.font_base.specs.Wrap.Laws.{wrap_is}
+use Rattle.font_base.specs.{Integers.sum-times, Integers.product-times, Wrap.wrap, Wrap.Laws.wrap_is}
 use Rattle.font_decimal.proofs.Integers.{neg-times}
-use Rattle.font_fixed.specs.declared.fixed_i32.FixedI32.{FixedI32}
-use Rattle.font_fixed.specs.FixedI32.{bits_of}
-use Rattle.font_fixed.specs.Operations.{IsIntegral}
+use Rattle.font_fixed.specs.{declared.fixed_i32.FixedI32.FixedI32, FixedI32.bits_of, Operations.IsIntegral}
 
 module _ (f : ℕ) where
   pub constant_is_integral : (n : ℕ) → n % 2 ^ f ≡ 0 → IsIntegral f (pos n)

@@ -3,15 +3,12 @@
 use Rattle.std.proofs.Common.{◌≡◌, ◌∙◌, refl, lit<, ℕ, ◌-◌, ◌*◌, ◌^◌, ◌<◌, ℤ, pos, neg_ℤ, ◌+ℤ◌, ◌*ℤ◌, ◌-ℤ◌, ◌≤ℤ◌, ◌<ℤ◌}
 use Rattle.std.proofs.Common.{arith, w16, w32, w64, pow_pos, SFits, to_z, of_z}
 use Rattle.std.proofs.lemmas.Int.{ints, to_z-of_z}
-use Rattle.font_base.specs.Integers.{sum-times, product-times}
-use Rattle.font_base.specs.Wrap.{wrap, FitsBits}
 use Rattle.font_base.specs.Wrap.Laws.{wrap-fits, wrap_is, wrap_same}
+use Rattle.font_base.specs.{Integers.sum-times, Integers.product-times, Wrap.wrap, Wrap.FitsBits}
 use Rattle.font_decimal.specs.Near.{Up, up}
-use Rattle.font_decimal.proofs.Integers.{neg-times}
-use Rattle.font_decimal.proofs.Near.{up_is, up_monotone, up_whole, up-times}
+use Rattle.font_decimal.proofs.{Integers.neg-times, Near.up_is, Near.up_monotone, Near.up_whole, Near.up-times}
 use Rattle.font_fixed.specs.Operations.{least, greatest, narrowed}
-use Rattle.font_fixed.proofs.Calls.{fits_32}
-use Rattle.font_fixed.proofs.Sums.{sums}
+use Rattle.font_fixed.proofs.{Calls.fits_32, Sums.sums}
 
 -- ---- of any width
 

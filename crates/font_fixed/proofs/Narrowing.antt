@@ -3,22 +3,17 @@
 use Rattle.std.proofs.Common.{◌≡◌, ◌∙◌, ap, refl, ℕ, ◌+◌, ◌-◌, ◌*◌, ◌/◌, ◌^◌, ◌<◌, ◌≤◌, Bool, ℤ, pos, neg_ℤ, ◌+ℤ◌, ◌*ℤ◌}
 use Rattle.std.proofs.Common.{◌%◌, ◌≤ℤ◌, ◌<ℤ◌, arith, IsTrue, nat_lt, ◌&&◌, ◌==◌, pow_pos, SFits, to_z, of_z}
 use Rattle.std.proofs.lemmas.Int.{ints, by_lt_z, to_z-of_z}
-use Rattle.std.proofs.lemmas.Bool.Decides.{nat_tests}
+use Rattle.std.proofs.{lemmas.Bool.Decides.nat_tests, lemmas.Grind.common_steps}
 use Rattle.std.specs.Int.{Width}
-use Rattle.std.proofs.lemmas.Grind.{common_steps}
 use mir.Val.{bits}
 use lib.Signed.{shr_z}
-use Rattle.font_base.specs.Integers.{sum-times, product-times}
-use Rattle.font_base.specs.Wrap.{half_range, wrap, FitsBits}
 use Rattle.font_base.specs.Wrap.Laws.{wrap_is, wrap_gives, wrap-wrap}
+use Rattle.font_base.specs.{Integers.sum-times, Integers.product-times, Wrap.half_range, Wrap.wrap, Wrap.FitsBits}
 use Rattle.font_base.proofs.Widths.{bits_positive, half_range-bits}
 use Rattle.font_decimal.specs.Near.{Up, up}
-use Rattle.font_decimal.proofs.Integers.{neg-times, times-next, times_monotone}
-use Rattle.font_decimal.proofs.Near.{up_gives}
+use Rattle.font_decimal.proofs.{Integers.neg-times, Integers.times-next, Integers.times_monotone, Near.up_gives}
 use Rattle.font_fixed.specs.Operations.{IsNarrowed, IsNearestWhole, IsFloor}
-use Rattle.font_fixed.proofs.Shifts.{shr_low, shr_high, shr_fits}
-use Rattle.font_fixed.proofs.Sums.{sums}
-use Rattle.font_fixed.proofs.Wrapped.{wrapping_mul-wrap}
+use Rattle.font_fixed.proofs.{Shifts.shr_low, Shifts.shr_high, Shifts.shr_fits, Sums.sums, Wrapped.wrapping_mul-wrap}
 
 -- if s is at least h * d, the greatest q with q * d <= s is at least h
 pub fits_low : (d : ℕ) (h s q : ℤ) → (h *ℤ pos d) ≤ℤ s → s <ℤ ((q *ℤ pos d) +ℤ pos d) → h ≤ℤ q

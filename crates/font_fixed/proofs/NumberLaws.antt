@@ -1,10 +1,8 @@
 -- The laws of products and quotients, from the contracts of the calls.
 use Rattle.std.proofs.Common.{◌≡◌, ◌≢◌, ◌∙◌, sym, ap, ℕ, ◌*◌, ◌^◌, ◌<◌, ◌≤◌, ℤ, pos, ◌*ℤ◌, ◌≤ℤ◌, arith, pow_pos}
-use Rattle.std.proofs.lemmas.Bool.Decides.{nat_tests}
-use Rattle.std.proofs.lemmas.Int.{ints}
 use Rattle.std.proofs.Math.IntN.{*ℤ_comm, *ℤ-negsuc, neg_ℤ-neg_ℤ}
-use Rattle.font_base.specs.Wrap.{wrap, FitsBits}
-use Rattle.font_base.specs.Wrap.Laws.{wrap-fits}
+use Rattle.std.proofs.{lemmas.Bool.Decides.nat_tests, lemmas.Int.ints}
+use Rattle.font_base.specs.{Wrap.wrap, Wrap.FitsBits, Wrap.Laws.wrap-fits}
 use Rattle.font_decimal.specs.Near.{Near}
 use Rattle.font_decimal.proofs.Near.{IsNearMagnitude, near_to, near_gives}
 use Rattle.font_fixed.specs.Operations.{IsWrappedNear, IsProduct, IsQuotient, IsMulDiv}

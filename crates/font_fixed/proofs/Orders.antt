@@ -2,11 +2,9 @@
 -- one unit; and the product by the opposite of a factor is the opposite product.
 use Rattle.std.proofs.Common.{◌≡◌, ◌≢◌, ◌∙◌, sym, ap, refl, ℕ, zero, suc, ◌*◌, ◌^◌, ◌<◌, ◌≤◌, ℤ, pos, negsuc, neg_ℤ}
 use Rattle.std.proofs.Common.{◌+ℤ◌, ◌-ℤ◌, ◌*ℤ◌, ◌≤ℤ◌, ◌<ℤ◌, arith, pow_pos, unsigned_abs}
-use Rattle.std.proofs.lemmas.Int.{ints, unsigned_abs-mul}
-use Rattle.std.proofs.Math.IntN.{*ℤ-negsuc, neg_ℤ-neg_ℤ}
-use Rattle.font_base.specs.Integers.{sum-times}
-use Rattle.font_base.specs.Wrap.{wrap, FitsBits}
+use Rattle.std.proofs.{lemmas.Int.ints, lemmas.Int.unsigned_abs-mul, Math.IntN.*ℤ-negsuc, Math.IntN.neg_ℤ-neg_ℤ}
 use Rattle.font_base.specs.Wrap.Laws.{wrap-fits, wrap_is, wrap_same}
+use Rattle.font_base.specs.{Integers.sum-times, Wrap.wrap, Wrap.FitsBits}
 use Rattle.font_decimal.specs.Near.{Near, near, up}
 use Rattle.font_decimal.proofs.Integers.{times_monotone, neg-times}
 use Rattle.font_decimal.proofs.Near.{near_is, near_gives, near_monotone, up_is, up_monotone}

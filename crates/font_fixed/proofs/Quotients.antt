@@ -3,8 +3,7 @@
 use Rattle.std.proofs.Common.{◌≡◌, ◌≢◌, ℕ, zero, ◌-◌, ◌*◌, ◌^◌, ◌<◌, Bool, not, ℤ, pos, unsigned_abs, arith}
 use Rattle.std.proofs.lemmas.Bool.Decides.{nat_tests}
 use Rattle.std.specs.Int.{is_negative}
-use Rattle.font_base.specs.Wrap.{wrap}
-use Rattle.font_base.specs.Wrap.Laws.{wrap-fits}
+use Rattle.font_base.specs.{Wrap.wrap, Wrap.Laws.wrap-fits}
 use Rattle.font_decimal.specs.Near.{signed, Near, near, near_magnitude}
 use Rattle.font_decimal.proofs.Near.{rounded_is, near_from, near_is, near_gives}
 use mathlib.Core.Bool.{beq}

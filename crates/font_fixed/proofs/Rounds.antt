@@ -1,17 +1,14 @@
 -- Numbers of w bits with f fraction bits, for every f in range: the steps and halves of code, floors by shifts, and the
 -- nearest integer as the floor of half a step more.
-use Rattle.std.proofs.Common.{◌≡◌, ◌∙◌, ap, ℕ, ◌+◌, ◌-◌, ◌*◌, ◌/◌, ◌%◌, ◌^◌, ◌<◌, ◌≤◌, ℤ, pos, neg_ℤ}
-use Rattle.std.proofs.Common.{◌+ℤ◌, ◌*ℤ◌, ◌≤ℤ◌, ◌<ℤ◌, arith, pow_pos, div-add-mod', IsTrue, SFits, to_z, of_z}
-use Rattle.std.proofs.Common.{pow-add, mod-lt}
+use Rattle.std.proofs.Common.{◌≡◌, ◌∙◌, ap, ℕ, ◌+◌, ◌-◌, ◌*◌, ◌/◌, ◌%◌, ◌^◌, ◌<◌, ◌≤◌, ℤ, pos, neg_ℤ, ◌+ℤ◌, ◌*ℤ◌, ◌≤ℤ◌}
+use Rattle.std.proofs.Common.{◌<ℤ◌, arith, pow_pos, div-add-mod', IsTrue, SFits, to_z, of_z, pow-add, mod-lt}
 use Rattle.std.proofs.lemmas.Int.{ints, by_lt_z, to_z_pos, to_z-of_z}
-use Rattle.std.proofs.lemmas.Bool.Decides.{nat_tests}
-use Rattle.std.proofs.lemmas.Nat.{one_shl}
 use Rattle.std.proofs.Math.Nat.{two-pow-succ, pow-le-pow_right}
+use Rattle.std.proofs.{lemmas.Bool.Decides.nat_tests, lemmas.Nat.one_shl}
 use Rattle.std.specs.Int.{Width}
 use mir.Val.{bits, hbits}
 use lib.Signed.{shr_z}
-use Rattle.font_base.specs.Wrap.{wrap, FitsBits}
-use Rattle.font_base.specs.Wrap.Laws.{wrap-fits}
+use Rattle.font_base.specs.{Wrap.wrap, Wrap.FitsBits, Wrap.Laws.wrap-fits}
 use Rattle.font_base.proofs.Widths.{bits_positive, half_range-bits}
 use Rattle.font_decimal.specs.Near.{Up, up}
 use Rattle.font_decimal.proofs.Integers.{neg-times, times-next, times_monotone}
@@ -19,9 +16,7 @@ use Rattle.font_decimal.proofs.Near.{up_gives, up_is}
 use Rattle.font_fixed.specs.Operations.{IsFloor, IsNearestWhole, fract_of, floor_of}
 use Rattle.font_fixed.specs.Rounding.{rounded}
 use Rattle.font_fixed.proofs.Narrowing.{is_width_split, floor_is_nearest_whole, fits_low, shr_back}
-use Rattle.font_fixed.proofs.Steps.{halves}
-use Rattle.font_fixed.proofs.Shifts.{shr_fits, shr_high, shr_low}
-use Rattle.font_fixed.proofs.Wrapped.{wrapping_mul-wrap}
+use Rattle.font_fixed.proofs.{Steps.halves, Shifts.shr_fits, Shifts.shr_high, Shifts.shr_low, Wrapped.wrapping_mul-wrap}
 
 two_halves : (f : ℕ) → 6 ≤ f → 2 ^ f ≡ 2 ^ f / 2 + 2 ^ f / 2
 two_halves f many = omega (arith, halves f many)

@@ -1,10 +1,9 @@
 -- The rules that the file of a fixed-point type names, so that its functions need no answers: the results of std's
 -- calls and of steps of code, at each width and every fraction, in the form of goals.
 use Rattle.std.proofs.Common.{w16, w32, w64}
-use Rattle.font_fixed.proofs.Texts.{HasRoom, padded_has_room}
-use Rattle.font_fixed.proofs.Wrapped.{wrapping_add-wrap, wrapping_sub-wrap, wrapping_neg-wrap, wrapping_abs-wrap}
-use Rattle.font_fixed.proofs.Wrapped.{wrapping_mul-wrap}
-use Rattle.font_fixed.proofs.Narrowing.{floor_is_nearest_whole, shr_is_narrowed}
+use Rattle.font_fixed.proofs.{Texts.HasRoom, Texts.padded_has_room, Wrapped.wrapping_add-wrap}
+use Rattle.font_fixed.proofs.{Wrapped.wrapping_sub-wrap, Wrapped.wrapping_neg-wrap, Wrapped.wrapping_abs-wrap}
+use Rattle.font_fixed.proofs.{Wrapped.wrapping_mul-wrap, Narrowing.floor_is_nearest_whole, Narrowing.shr_is_narrowed}
 
 -- `search` does not find the width of a column in its goal
 pub cell_16 : HasRoom w16

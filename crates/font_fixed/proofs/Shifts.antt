@@ -1,15 +1,13 @@
 -- Shifts to the right: the greatest multiple that is not greater.
-use Rattle.std.proofs.Common.{◌≡◌, ◌∙◌, ap, refl, lit<, lit≤, ℕ, suc, ◌-◌, ◌*◌, ◌^◌, ◌<◌, ◌≤◌, ℤ, pos, ◌+ℤ◌}
-use Rattle.std.proofs.Common.{◌*ℤ◌, ◌≤ℤ◌, ◌<ℤ◌, arith, SFits, to_z, of_z}
-use Rattle.std.proofs.lemmas.Bool.Decides.{nat_tests}
-use Rattle.std.proofs.lemmas.Int.{ints, to_z-of_z}
+use Rattle.std.proofs.Common.{◌≡◌, ◌∙◌, ap, refl, lit<, lit≤, ℕ, suc, ◌-◌, ◌*◌, ◌^◌, ◌<◌, ◌≤◌, ℤ, pos, ◌+ℤ◌, ◌*ℤ◌, ◌≤ℤ◌}
+use Rattle.std.proofs.Common.{◌<ℤ◌, arith, SFits, to_z, of_z}
 use Rattle.std.proofs.Math.Nat.{two-pow-succ, pow-le-pow_right}
+use Rattle.std.proofs.{lemmas.Bool.Decides.nat_tests, lemmas.Int.ints, lemmas.Int.to_z-of_z}
 use Rattle.std.specs.Int.{Width, w128}
 use lib.Signed.{shr_z}
 use Rattle.font_decimal.specs.Near.{up}
 use Rattle.font_base.specs.Integers.{product-times}
-use Rattle.font_decimal.proofs.Integers.{times-next, times_monotone}
-use Rattle.font_decimal.proofs.Near.{up_gives}
+use Rattle.font_decimal.proofs.{Integers.times-next, Integers.times_monotone, Near.up_gives}
 
 pub shr_low : (z : ℤ) (d : ℕ) → 0 < d → (shr_z z d *ℤ pos d) ≤ℤ z
 shr_low z d some = grind (arith, nat_tests)

@@ -1,13 +1,10 @@
 -- Small results, which do not wrap and so are the nearest numbers.
-use Rattle.std.proofs.Common.{◌≡◌, ◌∙◌, ℕ, ◌*◌, ◌^◌, ◌<◌, ◌≤◌, ℤ, pos, neg_ℤ, unsigned_abs, ◌*ℤ◌, ◌≤ℤ◌}
-use Rattle.std.proofs.Common.{arith, pow_pos, mul-le-mul}
-use Rattle.std.proofs.lemmas.Bool.Decides.{nat_tests}
-use Rattle.std.proofs.lemmas.Int.{ints, unsigned_abs-mul}
-use Rattle.font_base.specs.Wrap.{FitsBits, half_range}
-use Rattle.font_base.specs.Wrap.Laws.{wrap-fits}
+use Rattle.std.proofs.Common.{◌≡◌, ◌∙◌, ℕ, ◌*◌, ◌^◌, ◌<◌, ◌≤◌, ℤ, pos, neg_ℤ, unsigned_abs, ◌*ℤ◌, ◌≤ℤ◌, arith, pow_pos}
+use Rattle.std.proofs.Common.{mul-le-mul}
+use Rattle.std.proofs.{lemmas.Bool.Decides.nat_tests, lemmas.Int.ints, lemmas.Int.unsigned_abs-mul}
+use Rattle.font_base.specs.{Wrap.FitsBits, Wrap.half_range, Wrap.Laws.wrap-fits}
 use Rattle.font_decimal.specs.Near.{near}
-use Rattle.font_decimal.proofs.Near.{near_gives, near_monotone}
-use Rattle.font_decimal.proofs.Integers.{neg-times, times_monotone}
+use Rattle.font_decimal.proofs.{Near.near_gives, Near.near_monotone, Integers.neg-times, Integers.times_monotone}
 use Rattle.font_fixed.proofs.NumberLaws.{near_exact}
 use Rattle.font_fixed.specs.Operations.{IsWrappedNear, IsProduct}
 

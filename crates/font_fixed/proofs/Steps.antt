@@ -2,16 +2,15 @@
 -- negative, and the sum is shifted.
 use Rattle.std.proofs.Common.{◌≡◌, ◌∙◌, ap, ℕ, suc, ◌+◌, ◌-◌, ◌*◌, ◌%◌, ◌^◌, ◌<◌, ◌≤◌, ℤ, pos, ◌+ℤ◌, ◌-ℤ◌, ◌*ℤ◌, ◌≤ℤ◌}
 use Rattle.std.proofs.Common.{◌<ℤ◌, unsigned_abs, arith, lit<, ◌⊎◌, pow_pos, SFits, to_z, of_z, w64}
+use Rattle.std.proofs.lemmas.Int.{ints, unsigned_abs-mul, to_z-of_z}
+use Rattle.std.proofs.Math.Nat.{pow-le-pow_right, two-pow-succ}
 use mir.Val.{bool_byte}
 use lib.Signed.{shr_z, lt_z}
 use Rattle.font_base.specs.Wrap.{wrap}
 use Rattle.font_decimal.specs.Near.{Near, near}
 use Rattle.font_decimal.proofs.Near.{near_is, near_gives}
 use Rattle.font_fixed.specs.Operations.{IsWrappedNear}
-use Rattle.std.proofs.lemmas.Int.{ints, unsigned_abs-mul, to_z-of_z}
-use Rattle.std.proofs.Math.Nat.{pow-le-pow_right, two-pow-succ}
-use Rattle.font_fixed.proofs.Shifts.{shr_low, shr_high, shr_fits}
-use Rattle.font_fixed.proofs.Quotients.{wrapped_near_from}
+use Rattle.font_fixed.proofs.{Shifts.shr_low, Shifts.shr_high, Shifts.shr_fits, Quotients.wrapped_near_from}
 
 -- 1 if n is negative, else 0, as code computes it
 sign_step : (n e : ℤ) → e ≡ pos (bool_byte (lt_z n (pos 0)))

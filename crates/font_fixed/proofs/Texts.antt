@@ -2,26 +2,18 @@
 use Rattle.std.proofs.Common.{◌≡◌, ap, ℕ, ◌+◌, ◌*◌, ◌/◌, ◌^◌, ◌<◌, ◌≤◌, List, ℤ, ◌-◌, length, max, unsigned_abs, Option}
 use Rattle.std.proofs.Common.{IsSome, Result, Ok, Err, IfOk, ◌↔◌, arith, Bool, IsTrue, nat_lt, ◌&&◌, pow_pos, SFits}
 use Rattle.std.proofs.Common.{to_z, of_z, refl, zero, suc, true, inl, inr, pow-add, mul-lt-mul_of_pos_right, w64}
-use Rattle.std.proofs.lemmas.Bool.{cases_lt}
-use Rattle.font_fixed.specs.Longest.{longest}
-use Rattle.std.proofs.lemmas.Int.{ints}
-use Rattle.std.proofs.lemmas.Bool.Decides.{nat_tests}
-use Rattle.std.specs.Int.{Width}
+use Rattle.std.proofs.{lemmas.Bool.cases_lt, lemmas.Int.ints, lemmas.Bool.Decides.nat_tests}
+use Rattle.font_fixed.specs.Operations.{least, greatest, ReadsBits, ParsesBits}
+use Rattle.font_fixed.specs.{Longest.longest, Reading.ParsesFixedPoint}
+use Rattle.std.specs.{Int.Width, Result.result_map_both}
 use mir.Val.{bits, hbits}
 use Rattle.font_base.proofs.Widths.{half_range-bits, signed_fits}
 use Rattle.font_base.specs.Wrap.{FitsBits}
-use Rattle.std.specs.Result.{result_map_both}
-use Rattle.font_decimal.specs.Reading.{Reads}
-use Rattle.font_decimal.specs.Shortest.{shortest_text}
-use Rattle.font_decimal.specs.declared.reader.DecimalFault.{DecimalFault}
 use Rattle.font_decimal.specs.declared.reader.DecimalFault.TheVariants.{Syntax, OutOfRange}
-use Rattle.font_decimal.specs.Padding.{padded_text}
-use Rattle.font_decimal.specs.declared.padding.Pad.{Pad}
-use Rattle.font_decimal.proofs.Padded.{padded_fits}
+use Rattle.font_decimal.specs.{Reading.Reads, Shortest.shortest_text, declared.reader.DecimalFault.DecimalFault}
+use Rattle.font_decimal.specs.{Padding.padded_text, declared.padding.Pad.Pad}
 use Rattle.font_decimal.proofs.Printed.{length-shortest_body-le, printed_rounds}
-use Rattle.font_decimal.proofs.Readings.{answers_as}
-use Rattle.font_fixed.specs.Operations.{least, greatest, ReadsBits, ParsesBits}
-use Rattle.font_fixed.specs.Reading.{ParsesFixedPoint}
+use Rattle.font_decimal.proofs.{Padded.padded_fits, Readings.answers_as}
 
 -- the number is cast to the type of the bits
 pub cast_reads : (w : Width) (f : ℕ) (text : List ℕ) (b min max : ℤ) → 2 ^ hbits w ≤ 2 ^ 63 → min ≡ least (bits w)

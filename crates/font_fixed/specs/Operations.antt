@@ -4,9 +4,8 @@ use Rattle.std.specs.Prelude.{◌≡◌, ℕ, zero, suc, ◌-◌, ◌^◌, Bool,
 use Rattle.std.specs.Prelude.{◌≤ℤ◌, ◌<ℤ◌, Result, if◌then◌else◌}
 use Rattle.std.specs.Int.{is_negative, int_rem_euclid, saturate_to_bits}
 use Rattle.font_base.specs.Wrap.{half_range, wrap, FitsBits}
-use Rattle.font_decimal.specs.Near.{signed, Near, near, Up, up}
-use Rattle.font_decimal.specs.Reading.{Reads, IsOutOfRange, Parses}
-use Rattle.font_decimal.specs.declared.reader.DecimalFault.{DecimalFault}
+use Rattle.font_decimal.specs.{Near.signed, Near.Near, Near.near, Near.Up, Near.up, Reading.Reads, Reading.IsOutOfRange}
+use Rattle.font_decimal.specs.{Reading.Parses, declared.reader.DecimalFault.DecimalFault}
 
 -- r is z wrapped to w bits: z itself, if it fits in them
 abbrev pub WrapsTo : ℕ → ℤ → ℤ → Type 0

@@ -1,12 +1,9 @@
 -- Parsing a decimal as a value of a fixed-point type.
 use Rattle.std.specs.Prelude.{◌≡◌, ◌↔◌, ℕ, ℤ, List, Result, Ok, Err, IfOk, FitsSigned}
-use Rattle.std.specs.Int.{Width}
-use Rattle.std.specs.Result.{result_map_both}
+use Rattle.std.specs.{Int.Width, Result.result_map_both}
 use mir.Val.{bits}
-use Rattle.font_decimal.specs.Grammar.{IsNoDecimal}
-use Rattle.font_decimal.specs.Shortest.{shortest_text}
-use Rattle.font_decimal.specs.declared.reader.DecimalFault.{DecimalFault}
 use Rattle.font_decimal.specs.declared.reader.DecimalFault.TheVariants.{Syntax, OutOfRange}
+use Rattle.font_decimal.specs.{Grammar.IsNoDecimal, Shortest.shortest_text, declared.reader.DecimalFault.DecimalFault}
 use Rattle.font_fixed.specs.Operations.{ReadsBits, IsTooFar, ParsesBits}
 
 -- The result of parsing: the nearest value of the type with width w and f fraction bits; `Syntax` if the text is not a

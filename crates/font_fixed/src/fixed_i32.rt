@@ -1,22 +1,17 @@
 //! 32-bit fixed-point numbers.
 #![tactic(auto, using(crate::proofs::Rules::number_code))]
 
-ghost use Rattle.std.specs.Prelude.{◌≡◌, ◌≤◌, ◌↔◌, ◌/◌, ◌^◌, ℤ, pos, neg_ℤ, ◌+ℤ◌, ◌-ℤ◌};
-ghost use Rattle.std.specs.Prelude.{◌≤ℤ◌, ◌<ℤ◌, Some};
-ghost use Rattle.std.specs.Prelude.{IsSome, IfSome, IfNone, length, max, unsigned_abs};
+ghost use Rattle.std.specs.Prelude.{◌≡◌, ◌≤◌, ◌↔◌, ◌/◌, ◌^◌, ℤ, pos, neg_ℤ, ◌+ℤ◌, ◌-ℤ◌, ◌≤ℤ◌, ◌<ℤ◌};
+ghost use Rattle.std.specs.Prelude.{Some, IsSome, IfSome, IfNone, length, max, unsigned_abs};
 ghost use Rattle.std.specs.Int.{w32};
-ghost use Rattle.font_base.specs.Wrap.{FitsBits};
-ghost use Rattle.font_base.specs.Bytes.{bytes_of};
+ghost use Rattle.font_base.specs.{Wrap.FitsBits, Bytes.bytes_of};
 ghost use Rattle.font_decimal.specs.Padding.{padded_text, FillsFront};
-ghost use Rattle.font_decimal.specs.Shortest.{IsShortest};
-ghost use Rattle.font_decimal.specs.Shown.{shown};
+ghost use Rattle.font_decimal.specs.{Shortest.IsShortest, Shown.shown};
 ghost use Rattle.font_fixed.specs.Operations.{WrapsTo, IsNearestWhole, IsIntegral, IsFloor};
 ghost use Rattle.font_fixed.specs.Operations.{IsFract, clamp};
-ghost use Rattle.font_fixed.specs.Reading.{ParsesFixedPoint};
-ghost use Rattle.font_fixed.specs.Rounding.{rounded};
-ghost use Rattle.font_fixed.specs.declared.fixed_i32.FixedI32.{FixedI32};
 ghost use Rattle.font_fixed.specs.FixedI32.{bits_of, text_of};
-ghost use Rattle.font_fixed.specs.Longest.{longest};
+ghost use Rattle.font_fixed.specs.{Reading.ParsesFixedPoint, Rounding.rounded};
+ghost use Rattle.font_fixed.specs.{declared.fixed_i32.FixedI32.FixedI32, Longest.longest};
 
 use crate::formats::Format;
 use crate::{floor_bits_32, read_bits_32, round_bits_32};

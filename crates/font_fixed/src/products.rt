@@ -5,8 +5,7 @@ ghost use Rattle.std.specs.Prelude.{◌≡◌, ◌≢◌, ◌-◌, ◌^◌, ◌<
 ghost use Rattle.std.specs.Int.{is_negative};
 ghost use Rattle.font_base.specs.Wrap.{wrap};
 ghost use Rattle.font_decimal.specs.Near.{signed, near, near_magnitude};
-ghost use Rattle.font_fixed.specs.Operations.{differ_in_sign, IsProduct, IsMulDiv};
-ghost use Rattle.font_fixed.specs.Operations.{rounded_mul_div};
+ghost use Rattle.font_fixed.specs.Operations.{differ_in_sign, IsProduct, IsMulDiv, rounded_mul_div};
 
 /// Multiplies two numbers with `f` fraction bits, rounding half away from zero and wrapping on
 /// overflow.

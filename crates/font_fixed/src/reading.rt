@@ -1,7 +1,6 @@
 //! Parsing decimals to the raw bits of fixed-point numbers.
 
-ghost use Rattle.std.specs.Prelude.{◌≤◌};
-ghost use Rattle.std.specs.Int.{w16, w32, w64};
+ghost use Rattle.std.specs.{Prelude.◌≤◌, Int.w16, Int.w32, Int.w64};
 ghost use Rattle.font_fixed.specs.Reading.{ParsesFixedPoint};
 
 use font_decimal::{DecimalFault, read_decimal_bytes};

@@ -3,8 +3,7 @@
 ghost use Rattle.std.specs.Prelude.{◌≡◌, ◌↔◌, ◌+◌, ◌-◌, ◌^◌, ◌≤◌, IsSome, IfSome};
 ghost use Rattle.font_base.specs.Wrap.{FitsBits};
 ghost use Rattle.font_decimal.specs.Near.{up};
-ghost use Rattle.font_fixed.specs.Operations.{IsFloor};
-ghost use Rattle.font_fixed.specs.Rounding.{rounded};
+ghost use Rattle.font_fixed.specs.{Operations.IsFloor, Rounding.rounded};
 
 /// Returns the raw value of the largest integer less than or equal to a 16-bit value with `f`
 /// fraction bits.

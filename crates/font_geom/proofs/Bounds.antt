@@ -2,20 +2,17 @@
 -- on matrices whose entries are small enough for that.
 use Rattle.std.proofs.Common.{◌≡◌, ◌∙◌, ap, ℕ, ◌+◌, ◌*◌, ◌^◌, ◌<◌, ◌≤◌, ℤ, pos, ◌+ℤ◌, ◌-ℤ◌, ◌*ℤ◌, ◌≤ℤ◌, unsigned_abs}
 use Rattle.std.proofs.Common.{lit<, arith, ◌/◌, ◌&&◌, IsTrue, nat_lt, mul-le-mul_right, le_trans}
-use Rattle.std.proofs.lemmas.Int.{unsigned_abs-mul, ints}
 use Rattle.std.proofs.Math.IntN.{*ℤ_comm, +ℤ_comm, +ℤ_assoc}
-use Rattle.font_base.specs.Integers.{sum-times, product-times}
+use Rattle.std.proofs.{lemmas.Int.unsigned_abs-mul, lemmas.Int.ints, lemmas.Bool.Decides.nat_tests}
 use Rattle.font_base.specs.Wrap.Laws.{wrap-fits, wrap-add_left, wrap-add_right}
+use Rattle.font_base.specs.{Integers.sum-times, Integers.product-times, Wrap.FitsBits}
 use Rattle.font_decimal.proofs.Near.{near_is}
 use Rattle.font_fixed.proofs.Sums.{sums}
-use Rattle.font_geom.specs.declared.matrix.Matrix.{Matrix}
-use Rattle.font_geom.specs.declared.point.Point.{Point}
 use Rattle.font_geom.specs.Matrix.{linear_form, affine_form, image_of, matrix_product, FitsEach}
 use Rattle.font_geom.specs.FixedMatrix.{rounded_product, wrapped_product, wrapped_sum, exact_coordinate, IsWithin}
 use Rattle.font_geom.specs.FixedMatrix.{FitsComposed, FitsInTurn, IsCloseComposed, IsCloseInTurn, FitsPoint, IsBounded}
 use Rattle.font_geom.specs.FixedMatrix.{IsBoundedPoint, form_bound, has_room_composed, has_room_in_turn}
-use Rattle.std.proofs.lemmas.Bool.Decides.{nat_tests}
-use Rattle.font_base.specs.Wrap.{FitsBits}
+use Rattle.font_geom.specs.{declared.matrix.Matrix.Matrix, declared.point.Point.Point}
 
 -- a and b are at most e apart
 record Close (e : ℕ) (a b : ℤ) : Type 0 where

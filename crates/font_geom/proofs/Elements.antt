@@ -1,9 +1,8 @@
 -- If sums and products of elements have one result, so have images and products of matrices.
 use Rattle.std.proofs.Common.{arith, ◌≡◌}
-use Rattle.font_geom.specs.declared.matrix.Matrix.{Matrix}
-use Rattle.font_geom.specs.declared.point.Point.{Point}
 use Rattle.font_geom.specs.Matrix.{IsLinearForm, IsAffineForm, IsTransformed, IsProductOf, linear_form, affine_form}
 use Rattle.font_geom.specs.Matrix.{image_of, matrix_product}
+use Rattle.font_geom.specs.{declared.matrix.Matrix.Matrix, declared.point.Point.Point}
 
 -- the matrix and the point of a function's results at each element
 abbrev pub map_matrix : {T V : Type 0} → (T → V) → Matrix T → Matrix V

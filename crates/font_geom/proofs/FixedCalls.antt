@@ -1,11 +1,9 @@
 -- Results of calls on matrices of `Fixed`, by their raw values.
 use Rattle.std.proofs.Common.{◌≡◌, ◌+ℤ◌}
-use Rattle.font_fixed.specs.Operations.{IsProduct, WrapsTo}
-use Rattle.font_fixed.specs.Fixed.{Fixed, fixed_bits}
-use Rattle.font_geom.specs.declared.matrix.Matrix.{Matrix}
-use Rattle.font_geom.specs.declared.point.Point.{Point}
+use Rattle.font_fixed.specs.{Operations.IsProduct, Operations.WrapsTo, Fixed.Fixed, Fixed.fixed_bits}
 use Rattle.font_geom.specs.Matrix.{IsTransformed, IsProductOf, image_of, matrix_product}
 use Rattle.font_geom.specs.FixedMatrix.{matrix_bits, point_bits, wrapped_product, wrapped_sum}
+use Rattle.font_geom.specs.{declared.matrix.Matrix.Matrix, declared.point.Point.Point}
 use Rattle.font_geom.proofs.Elements.{HasOneAnswer, image_is, matrix_product_is}
 
 -- the contracts of `*` and `+`

@@ -1,12 +1,9 @@
 -- Results of calls on matrices over a ring.
-use Rattle.std.proofs.Common.{◌≡◌, ◌∙◌}
-use Rattle.font_geom.specs.declared.matrix.Matrix.{Matrix}
-use Rattle.font_geom.specs.declared.point.Point.{Point}
+use Rattle.std.proofs.Common.{◌≡◌, ◌∙◌, arith}
 use Rattle.font_geom.specs.Matrix.{IsTransformed, IsProductOf, identity_matrix, matrix_product}
-use Rattle.font_geom.specs.Ring.{RingLaws}
+use Rattle.font_geom.specs.{declared.matrix.Matrix.Matrix, declared.point.Point.Point, Ring.RingLaws}
 use Rattle.font_geom.proofs.Elements.{HasOneAnswer, matrix_product_is}
 use Rattle.font_geom.proofs.RingMatrices.{matrix_product-matrix_product, image_of-matrix_product}
-use Rattle.std.proofs.Common.{arith}
 
 module _ {T : Type 0} {product sum : T → T → T → Type 0} {zero one : T} {plus times : T → T → T}
     (answers : HasOneAnswer product sum (λ x. x) plus times) (ring : RingLaws zero one plus times) where

@@ -1,10 +1,8 @@
 -- Matrices over a ring multiply as its elements do: products associate, and a product transforms a point as its factors
 -- do in turn.
 use Rattle.std.proofs.Common.{◌≡◌}
-use Rattle.font_geom.specs.declared.matrix.Matrix.{Matrix}
-use Rattle.font_geom.specs.declared.point.Point.{Point}
 use Rattle.font_geom.specs.Matrix.{image_of, matrix_product}
-use Rattle.font_geom.specs.Ring.{RingLaws}
+use Rattle.font_geom.specs.{declared.matrix.Matrix.Matrix, declared.point.Point.Point, Ring.RingLaws}
 
 module _ {T : Type 0} {zero one : T} {plus times : T → T → T} (ring : RingLaws zero one plus times) where
   -- with this, `simp` sorts the terms of a sum

@@ -5,11 +5,9 @@ use Rattle.std.specs.Prelude.{◌≡◌, ℕ, ◌+◌, ◌*◌, ◌/◌, ◌^◌
 use Rattle.std.specs.Prelude.{unsigned_abs}
 use Rattle.font_base.specs.Wrap.{FitsBits, wrap}
 use Rattle.font_decimal.specs.Near.{near}
-use Rattle.font_fixed.specs.Fixed.{Fixed}
-use Rattle.font_fixed.specs.Fixed.{fixed_bits, fixed_of}
-use Rattle.font_geom.specs.declared.matrix.Matrix.{Matrix}
-use Rattle.font_geom.specs.declared.point.Point.{Point}
+use Rattle.font_fixed.specs.Fixed.{Fixed, fixed_bits, fixed_of}
 use Rattle.font_geom.specs.Matrix.{image_of, matrix_product, FitsEach}
+use Rattle.font_geom.specs.{declared.matrix.Matrix.Matrix, declared.point.Point.Point}
 
 -- the raw value of each element, and of each coordinate
 abbrev pub matrix_bits : Matrix Fixed → Matrix ℤ

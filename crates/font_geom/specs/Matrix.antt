@@ -1,7 +1,6 @@
 -- Affine transformations of the plane, over any element type.
 use Rattle.std.specs.Prelude.{List, [], ◌∷◌}
-use Rattle.font_geom.specs.declared.matrix.Matrix.{Matrix}
-use Rattle.font_geom.specs.declared.point.Point.{Point}
+use Rattle.font_geom.specs.{declared.matrix.Matrix.Matrix, declared.point.Point.Point}
 
 -- the elements in the order of `elements`
 abbrev pub elements_of : {T : Type 0} → Matrix T → List T

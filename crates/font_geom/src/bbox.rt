@@ -1,7 +1,6 @@
 //! Axis-aligned bounding boxes.
 
-ghost use Rattle.std.specs.Prelude.{◌≡◌, IsTrue};
-ghost use Rattle.std.specs.Ordering.{partial_le};
+ghost use Rattle.std.specs.{Prelude.◌≡◌, Prelude.IsTrue, Ordering.partial_le};
 ghost use Rattle.font_geom.specs.BoundingBox.{CanScale, IsScaled, is_normalized, normalized_box};
 ghost use Rattle.font_geom.specs.BoundingBox.{Compares, HasSamePairs};
 

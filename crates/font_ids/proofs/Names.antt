@@ -1,11 +1,10 @@
 -- The predefined name ids, one by one.
 use Rattle.std.proofs.Common.{◌≡◌, ◌≢◌, ◌∙◌, sym, ap, refl, ℕ, ◌+◌, ◌≤◌, ◌⊎◌, inl, inr, Bool, true, ◌==◌, ◌||◌, nat_le}
 use Rattle.std.proofs.Common.{nat_eq, List, ◌∷◌, filter, length, ◌-◌, ◌<◌, arith}
-use Rattle.std.proofs.lemmas.Grind.{common_steps}
 use Rattle.std.proofs.lemmas.Bool.{agree_below_at, or_cases, eqb-true}
+use Rattle.std.proofs.{lemmas.Grind.common_steps, lemmas.Bool.Decides.nat_tests}
 use Rattle.std.specs.Cmp.Lexicographic.{pointwise, bytes_decides}
 use Rattle.font_ids.specs.NameId.{predefined_numbers}
-use Rattle.std.proofs.lemmas.Bool.Decides.{nat_tests}
 
 -- the predefined numbers that are not below n
 abbrev pub left_from : ℕ → List ℕ

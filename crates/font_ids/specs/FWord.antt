@@ -1,8 +1,7 @@
 -- Quantities in font design units.
 use Rattle.std.specs.Prelude.{ℕ, ℤ}
 use Rattle.font_decimal.specs.Near.{up}
-use Rattle.font_ids.specs.declared.fword.FWord.{FWord}
-use Rattle.font_ids.specs.declared.fword.UfWord.{UfWord}
+use Rattle.font_ids.specs.{declared.fword.FWord.FWord, declared.fword.UfWord.UfWord}
 
 -- the value of an `FWord` (OpenType, data types: FWORD, "int16 that describes a quantity in font design units"),
 -- and the `FWord` with this value

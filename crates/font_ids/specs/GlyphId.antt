@@ -1,12 +1,8 @@
 -- Glyph ids (OpenType: the glyphs of a font are numbered from 0; ids are stored as uint16 or uint24).
-use Rattle.std.specs.Prelude.{ℕ, List, ◌++◌, codes}
-use Rattle.std.specs.Fmt.{decimal}
-use Rattle.font_base.specs.declared.uint24.Uint24.{Uint24}
-use Rattle.font_base.specs.Uint24.{uint24_number}
-use Rattle.font_ids.specs.declared.glyph_id.GlyphId16.{GlyphId16}
-use Rattle.font_ids.specs.declared.glyph_id.GlyphId24.{GlyphId24}
-use Rattle.font_ids.specs.declared.glyph_id.GlyphId.{GlyphId}
-use Rattle.font_ids.specs.declared.glyph_id.TryFromGlyphIdError.{TryFromGlyphIdError}
+use Rattle.std.specs.{Prelude.ℕ, Prelude.List, Prelude.◌++◌, Prelude.codes, Fmt.decimal}
+use Rattle.font_base.specs.{declared.uint24.Uint24.Uint24, Uint24.uint24_number}
+use Rattle.font_ids.specs.{declared.glyph_id.GlyphId16.GlyphId16, declared.glyph_id.GlyphId24.GlyphId24}
+use Rattle.font_ids.specs.{declared.glyph_id.GlyphId.GlyphId, declared.glyph_id.TryFromGlyphIdError.TryFromGlyphIdError}
 
 -- the number of a 16-bit glyph id, and the glyph id with this number
 abbrev pub glyph16_number : GlyphId16 → ℕ

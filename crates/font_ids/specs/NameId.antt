@@ -2,8 +2,7 @@
 -- font-specific).
 use Rattle.std.specs.Prelude.{ℕ, List, [], ◌∷◌, ◌++◌, ◌==◌, if◌then◌else◌, nat_le, map, filter, codes}
 use Rattle.std.specs.Fmt.{decimal}
-use Rattle.font_ids.specs.declared.name_id.NameId.{NameId}
-use Rattle.font_ids.specs.declared.name_id.Predefined.{Predefined}
+use Rattle.font_ids.specs.{declared.name_id.NameId.NameId, declared.name_id.Predefined.Predefined}
 
 -- the number of a name id, and the name id with this number
 abbrev pub name_number : NameId → ℕ

@@ -1,8 +1,7 @@
 -- The scalar and equality laws of a newtype of a scalar.
-use Rattle.std.proofs.Common.{◌≡◌, ℕ, Bool}
+use Rattle.std.proofs.Common.{◌≡◌, ℕ, Bool, arith}
 use Rattle.std.specs.Bool.{Decides}
 use Rattle.font_base.specs.Scalar.{ScalarLaws}
-use Rattle.std.proofs.Common.{arith}
 
 -- the laws of the inner type hold for the newtype
 pub newtype_laws : {V T R : Type 0} {is_scalar : V → Bool} {is_raw : R → Bool} {of_raw : R → V} {raw_of : V → R}

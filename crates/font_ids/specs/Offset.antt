@@ -1,12 +1,9 @@
 -- Offsets to tables (OpenType, data types: Offset16, Offset24 and Offset32 are offsets to a table, same as uint16,
 -- uint24 and uint32, and zero is the NULL offset).
 use Rattle.std.specs.Prelude.{ℕ}
-use Rattle.font_base.specs.declared.uint24.Uint24.{Uint24}
-use Rattle.font_base.specs.Uint24.{uint24_number}
-use Rattle.font_ids.specs.declared.offset.Offset16.{Offset16}
-use Rattle.font_ids.specs.declared.offset.Offset24.{Offset24}
-use Rattle.font_ids.specs.declared.offset.Offset32.{Offset32}
-use Rattle.font_ids.specs.declared.offset.Nullable.{Nullable}
+use Rattle.font_base.specs.{declared.uint24.Uint24.Uint24, Uint24.uint24_number}
+use Rattle.font_ids.specs.{declared.offset.Offset16.Offset16, declared.offset.Offset24.Offset24}
+use Rattle.font_ids.specs.{declared.offset.Offset32.Offset32, declared.offset.Nullable.Nullable}
 
 -- the number of an offset, and the offset with this number
 abbrev pub offset16_number : Offset16 → ℕ

@@ -2,14 +2,13 @@
 
 ghost use Rattle.std.specs.Prelude.{◌≡◌, ◌↔◌, ◌^◌, ◌+ℤ◌, ◌*ℤ◌, ◌≤ℤ◌, ◌<ℤ◌, pos, nat_lt, Some};
 ghost use Rattle.std.specs.Prelude.{IsSome, IfSome, refl};
-ghost use Rattle.std.proofs.Common.{lit<};
 ghost use Rattle.std.specs.Fmt.{decimal, signed_decimal};
+ghost use Rattle.std.proofs.Common.{lit<};
 ghost use Rattle.font_base.specs.Wrap.{FitsBits, fits_bits, wrap};
 ghost use Rattle.font_base.specs.Bytes.{bytes_of, numeral, signed_numeral};
 ghost use Rattle.font_base.specs.Scalar.Laws.{unsigned_newtype, unsigned_identity, signed_newtype};
 ghost use Rattle.font_base.specs.Scalar.Laws.{signed_identity};
-ghost use Rattle.font_fixed.specs.F48Dot16.{f48dot16_bits};
-ghost use Rattle.font_fixed.specs.Fixed.{fixed_bits};
+ghost use Rattle.font_fixed.specs.{F48Dot16.f48dot16_bits, Fixed.fixed_bits};
 ghost use Rattle.font_ids.specs.FWord.{fword_number, fword_of, ufword_number, ufword_of};
 ghost use Rattle.font_ids.specs.FWord.{nearest_unit};
 

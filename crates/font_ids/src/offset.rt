@@ -1,7 +1,7 @@
 //! Offsets to tables.
 
-ghost use Rattle.std.specs.Prelude.{◌≡◌, ◌^◌, ◌↔◌, ℕ, pos, nat_lt, true, IsTrue, refl};
-ghost use Rattle.std.specs.Prelude.{IsNone, IfSome};
+ghost use Rattle.std.specs.Prelude.{◌≡◌, ◌^◌, ◌↔◌, ℕ, pos, nat_lt, true, IsTrue, refl, IsNone};
+ghost use Rattle.std.specs.Prelude.{IfSome};
 ghost use Rattle.std.proofs.Common.{lit<};
 ghost use Rattle.font_base.specs.Uint24.{uint24_number, uint24_of, uint24_of_bytes};
 ghost use Rattle.font_base.specs.Uint24.{bytes_of_uint24};

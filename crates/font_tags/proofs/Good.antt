@@ -1,10 +1,8 @@
 -- Good bytes, index by index, and the first error of others.
 use Rattle.std.proofs.Common.{◌≡◌, ◌≢◌, sym, ap, ℕ, ◌+◌, ◌-◌, ◌<◌, ◌≤◌, List, ◌++◌, length, take, replicate, get_or}
 use Rattle.std.proofs.Common.{arith, [], ◌∷◌, min, rules, take_all, append_assoc}
-use Rattle.std.proofs.lemmas.Bool.Decides.{nat_tests}
-use Rattle.std.proofs.lemmas.Grind.{elements}
 use Rattle.std.proofs.lemmas.List.{places, replicate-append-replicate}
-use Rattle.std.proofs.lemmas.List.Elements.{All-from_get_or}
+use Rattle.std.proofs.{lemmas.Bool.Decides.nat_tests, lemmas.Grind.elements, lemmas.List.Elements.All-from_get_or}
 use Rattle.font_base.proofs.StdBytes.{items_are}
 use Rattle.font_tags.specs.Tag.{IsVisible, IsGood, IsFault, four_spaces, filled}
 

@@ -1,19 +1,13 @@
 -- Laws of tags: `validate` and `new_checked` agree, and a printed text is that of one tag alone.
 use Rattle.std.proofs.Common.{◌≡◌, ◌≢◌, sym, ap, refl, ℕ, suc, ◌/◌, ◌%◌, ◌<◌, ◌≤◌, ◌⊎◌, inl, inr, true, IsTrue, List}
 use Rattle.std.proofs.Common.{[], ◌∷◌, ◌++◌, length, get_or, Result, IsOk, ◌↔◌, IsUtf8, arith, rules}
-use Rattle.std.proofs.lemmas.Bool.Decides.{nat_tests}
-use Rattle.std.proofs.lemmas.List.{get_or_past}
-use Rattle.std.proofs.lemmas.Str.{IsUtf8-from_ascii}
-use Rattle.std.specs.List.{AllByRecursion}
-use Rattle.std.specs.Fmt.{digit_glyph}
 use Rattle.std.proofs.lemmas.Grind.{common_steps}
-use Rattle.font_base.specs.Bytes.{are_bytes}
-use Rattle.font_base.specs.Bytes.Laws.{are_bytes-length}
-use Rattle.font_tags.specs.declared.tag.Tag.{Tag}
-use Rattle.font_tags.specs.declared.tag.InvalidTag.{InvalidTag}
+use Rattle.std.proofs.{lemmas.Bool.Decides.nat_tests, lemmas.List.get_or_past, lemmas.Str.IsUtf8-from_ascii}
+use Rattle.std.specs.{List.AllByRecursion, Fmt.digit_glyph}
+use Rattle.font_base.specs.{Bytes.are_bytes, Bytes.Laws.are_bytes-length}
 use Rattle.font_tags.specs.Tag.{tag_bytes, tag_of, IsGood, IsChecked, IsValidated, byte_text, tag_text}
-use Rattle.font_tags.proofs.Good.{tag_judgements, to_good}
-use Rattle.font_tags.proofs.TagText.{IsHidden, byte_text-hidden}
+use Rattle.font_tags.specs.{declared.tag.Tag.Tag, declared.tag.InvalidTag.InvalidTag}
+use Rattle.font_tags.proofs.{Good.tag_judgements, Good.to_good, TagText.IsHidden, TagText.byte_text-hidden}
 
 -- ---- validation
 

@@ -1,7 +1,6 @@
 -- The printed text of tags.
 use Rattle.std.proofs.Common.{◌≡◌, ℕ, ◌/◌, ◌%◌, ◌<◌, ◌⊎◌, true, arith, Some, List, [], ◌∷◌}
-use Rattle.std.proofs.lemmas.Fmt.{hex_byte}
-use Rattle.std.proofs.lemmas.Bool.Decides.{nat_tests}
+use Rattle.std.proofs.{lemmas.Fmt.hex_byte, lemmas.Bool.Decides.nat_tests}
 use Rattle.std.specs.Fmt.{digits, digit_glyph, format_spec, styled_digits_output, digits_output, DisplaysOnOk}
 use Rattle.std.specs.Fmt.{WritesOnOk, ◌++?◌}
 use Rattle.font_tags.specs.Tag.{byte_text}

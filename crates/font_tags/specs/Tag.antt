@@ -3,11 +3,9 @@
 pub mod Laws
 use Rattle.std.specs.Prelude.{◌≡◌, ◌≢◌, ℕ, ◌+◌, ◌-◌, ◌/◌, ◌%◌, ◌<◌, ◌≤◌, ◌⊎◌, List, [], ◌∷◌, ◌++◌, length, take}
 use Rattle.std.specs.Prelude.{replicate, All, slice_index, nat_le, ◌&&◌, true, if◌then◌else◌, Result, Ok, Err, codes}
-use Rattle.std.specs.List.{flat_map}
-use Rattle.std.specs.Fmt.{digit_glyph}
-use Rattle.font_tags.specs.declared.tag.Tag.{Tag}
-use Rattle.font_tags.specs.declared.tag.InvalidTag.{InvalidTag}
+use Rattle.std.specs.{List.flat_map, Fmt.digit_glyph}
 use Rattle.font_tags.specs.declared.tag.InvalidTag.TheVariants.{InvalidLength, InvalidByte, ByteAfterSpace}
+use Rattle.font_tags.specs.{declared.tag.Tag.Tag, declared.tag.InvalidTag.InvalidTag}
 
 -- the four bytes of a tag
 abbrev pub tag_bytes : Tag → List ℕ

@@ -4,8 +4,7 @@ use Rattle.std.specs.Prelude.{◌≡◌, ℕ, ◌+◌, ◌-◌, ◌*◌, ◌/◌
 use Rattle.std.specs.Prelude.{take, drop, codes}
 use Rattle.std.specs.Fmt.{decimal, digits}
 use Rattle.font_base.specs.Bytes.{numeral, bytes_of}
-use Rattle.font_tags.specs.declared.version.Version16Dot16.{Version16Dot16}
-use Rattle.font_tags.specs.declared.version.MajorMinor.{MajorMinor}
+use Rattle.font_tags.specs.{declared.version.Version16Dot16.Version16Dot16, declared.version.MajorMinor.MajorMinor}
 
 -- the 32 bits of a version (OpenType, data types: Version16Dot16, "Packed 32-bit value with major and minor version
 -- numbers"), and the version with these bits

@@ -2,9 +2,8 @@
 
 ghost use Rattle.std.specs.Prelude.{◌≡◌, refl};
 ghost use Rattle.std.proofs.Common.{lit<};
-ghost use Rattle.font_base.specs.Wrap.{fits_bits};
-ghost use Rattle.font_base.specs.Bytes.{bytes_of, signed_numeral};
 ghost use Rattle.font_base.specs.Scalar.Laws.{signed_newtype, signed_identity};
+ghost use Rattle.font_base.specs.{Wrap.fits_bits, Bytes.bytes_of, Bytes.signed_numeral};
 ghost use Rattle.font_tags.specs.LongDateTime.{date_seconds, date_of};
 
 use font_base::{FixedSize, IdentityEq, Scalar};

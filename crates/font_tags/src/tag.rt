@@ -1,16 +1,13 @@
 //! Four-byte tags.
 
-ghost use Rattle.std.specs.Prelude.{◌≡◌, ◌≢◌, ◌<◌, ◌≤◌, ◌++◌, ◌↔◌, ℕ, pos, Some, IsTrue};
-ghost use Rattle.std.specs.Prelude.{IsOk, IfOk, MatchOption, slice_index, length, refl};
-ghost use Rattle.std.specs.Cmp.{on_po};
+ghost use Rattle.std.specs.Prelude.{◌≡◌, ◌≢◌, ◌<◌, ◌≤◌, ◌++◌, ◌↔◌, ℕ, pos, Some, IsTrue, IsOk};
+ghost use Rattle.std.specs.Prelude.{IfOk, MatchOption, slice_index, length, refl};
 ghost use Rattle.std.specs.Cmp.Lexicographic.{slice_cmp, texts_po, on_texts, texts_ties};
-ghost use Rattle.std.specs.Ordering.{on, nat_cmp};
-ghost use Rattle.std.specs.Fmt.{WritesOnOk};
+ghost use Rattle.std.specs.{Cmp.on_po, Ordering.on, Ordering.nat_cmp, Fmt.WritesOnOk};
 ghost use lib.Chars.{codes};
 ghost use Rattle.font_base.specs.Bytes.{are_bytes, bytes_of, numeral};
-ghost use Rattle.font_tags.specs.Tag.{tag_bytes, tag_of, four_spaces, IsVisible};
-ghost use Rattle.font_tags.specs.Tag.{IsGood, IsFault, IsAcceptable, IsChecked, IsValidated};
-ghost use Rattle.font_tags.specs.Tag.{byte_text, tag_text};
+ghost use Rattle.font_tags.specs.Tag.{tag_bytes, tag_of, four_spaces, IsVisible, IsGood, IsFault};
+ghost use Rattle.font_tags.specs.Tag.{IsAcceptable, IsChecked, IsValidated, byte_text, tag_text};
 
 use font_base::{FixedSize, IdentityEq, Scalar};
 use std::cmp::Ordering;

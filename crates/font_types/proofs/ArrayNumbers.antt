@@ -4,11 +4,9 @@ use Rattle.std.proofs.Common.{List, [], ◌∷◌, take, drop, get_or}
 use Rattle.std.proofs.lemmas.List.{drop-drop, take_all}
 use Rattle.std.proofs.lemmas.List.Sums.{sum_by-cons, sum_by_more}
 use Rattle.std.specs.List.{sum_by}
-use Rattle.font_base.specs.Bytes.{numeral, signed_numeral, bytes_of}
-use Rattle.font_base.specs.Bytes.Laws.{numeral-bytes_of, signed_numeral-bytes_of}
-use Rattle.font_base.specs.Elements.{elements, element}
-use Rattle.font_base.proofs.Elements.{length-elements}
-use Rattle.font_base.proofs.Widths.{signed_fits}
+use Rattle.font_base.specs.{Bytes.numeral, Bytes.signed_numeral, Bytes.bytes_of, Bytes.Laws.numeral-bytes_of}
+use Rattle.font_base.specs.{Bytes.Laws.signed_numeral-bytes_of, Elements.elements, Elements.element}
+use Rattle.font_base.proofs.{Elements.length-elements, Widths.signed_fits}
 
 element_at : (size n i : ℕ) (bytes d : List ℕ) → i < n → get_or (elements size n bytes) i d ≡ element size bytes i
 element_at size zero i bytes d within = absurd (omega arith)

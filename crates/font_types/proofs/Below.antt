@@ -1,10 +1,8 @@
 -- Sums over an index: the empty sum, and one term more; and hexadecimal text.
-use Rattle.std.proofs.Common.{◌≡◌, refl, ℕ, ◌+◌, ◌-◌, ℤ, pos, ◌+ℤ◌, add-one}
+use Rattle.std.proofs.Common.{◌≡◌, refl, ℕ, ◌+◌, ◌-◌, ℤ, pos, ◌+ℤ◌, add-one, arith}
 use Rattle.std.proofs.Math.IntN.{+ℤ_assoc}
-use Rattle.font_base.specs.Wrap.{wrap}
-use Rattle.font_base.specs.Wrap.Laws.{wrap-add_left}
+use Rattle.font_base.specs.{Wrap.wrap, Wrap.Laws.wrap-add_left}
 use Rattle.font_types.specs.Delta.{total_below}
-use Rattle.std.proofs.Common.{arith}
 
 pub none_below : (number_at : ℕ → ℤ) → total_below number_at 0 ≡ pos 0
 unfolding total_below

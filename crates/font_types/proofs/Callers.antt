@@ -2,23 +2,16 @@
 -- lemmas for answers.
 use Rattle.font_base.proofs.ScalarCalls.{scalar_calls}
 use Rattle.font_fixed.proofs.Calls.{calls_16, calls_32, calls_64}
-use Rattle.font_fixed.proofs.FixedCalls.{fixed_calls}
-use Rattle.font_fixed.proofs.Integral.{integral_calls, integral_rules}
-use Rattle.font_fixed.proofs.NarrowCalls.{narrow_calls, quarter_neg_one}
-use Rattle.font_fixed.proofs.Orders.{order_calls}
 use Rattle.font_fixed.proofs.Shifts.{shr_low, shr_high, shr_fits}
-use Rattle.font_tags.proofs.TagLaws.{tag_calls}
-use Rattle.font_tags.proofs.VersionLaws.{compatible_calls}
+use Rattle.font_fixed.proofs.{FixedCalls.fixed_calls, Integral.integral_calls, Integral.integral_rules}
+use Rattle.font_fixed.proofs.{NarrowCalls.narrow_calls, NarrowCalls.quarter_neg_one, Orders.order_calls}
+use Rattle.font_tags.proofs.{TagLaws.tag_calls, VersionLaws.compatible_calls}
 use Rattle.font_geom.proofs.Bounds.{bound_calls}
-use Rattle.font_types.proofs.Searches.{search_calls}
 use Rattle.font_types.proofs.SumCalls.{sum_calls_from, sum_calls_16, sum_calls_32, delta_rules}
-use Rattle.font_types.proofs.StoredBytes.{stored_calls}
-use Rattle.font_types.proofs.ShortProducts.{short_product_calls}
 use Rattle.font_types.proofs.Parts.{part_calls, unit_calls, between_calls, lerp_calls}
 use Rattle.font_types.proofs.Narrowed.{exact_narrow_calls, exact_sum_is_integral, negation_is_integral}
-use Rattle.font_types.proofs.ArrayNumbers.{array_number_calls}
-use Rattle.font_types.proofs.Below.{below_calls}
-use Rattle.font_types.proofs.Writes.{write_calls}
+use Rattle.font_types.proofs.{Searches.search_calls, StoredBytes.stored_calls, ShortProducts.short_product_calls}
+use Rattle.font_types.proofs.{ArrayNumbers.array_number_calls, Below.below_calls, Writes.write_calls}
 pub use Rattle.font_base.proofs.ScalarCalls.{absent, nowhere, rises_by}
 pub use Rattle.font_base.proofs.Moved.{bytes_moved}
 pub use Rattle.font_base.specs.Wrap.Laws.{wrap_is, wrap_unique, wrap-fits}

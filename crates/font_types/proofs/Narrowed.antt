@@ -1,8 +1,7 @@
 -- Narrowed numbers that do not wrap, and exact sums and negations of integers.
 use Rattle.std.proofs.Common.{◌≡◌, ℕ, ◌<◌, ◌-◌, ◌/◌, ℤ, pos, neg_ℤ, ◌+ℤ◌, ◌*ℤ◌, ◌≤ℤ◌, arith, pow_pos}
 use Rattle.std.proofs.lemmas.Int.{ints, by_lt_z}
-use Rattle.font_base.specs.Wrap.{wrap}
-use Rattle.font_base.specs.Wrap.Laws.{wrap-fits}
+use Rattle.font_base.specs.{Wrap.wrap, Wrap.Laws.wrap-fits}
 use Rattle.font_decimal.specs.Near.{up}
 use Rattle.font_decimal.proofs.Integers.{times_monotone, times-next}
 use Rattle.font_decimal.proofs.Near.{up_is, up_monotone, up_whole}

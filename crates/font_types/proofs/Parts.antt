@@ -1,21 +1,15 @@
 -- Products of `Fixed` by a part of a whole, a number from 0 to 1, numbers between two others, and products by a widened
 -- 2.14 factor.
-use Rattle.std.proofs.Common.{◌≡◌, ◌≢◌, ◌∙◌, sym, ap, refl, lit<, arith, ℕ, zero, suc, ◌+◌, ◌-◌, ℤ, pos, negsuc}
-use Rattle.std.proofs.Common.{◌*◌, ◌<◌, neg_ℤ, ◌+ℤ◌, ◌-ℤ◌, ◌*ℤ◌, ◌≤ℤ◌, ◌<ℤ◌, unsigned_abs, w16, w32, SFits}
-use Rattle.std.proofs.lemmas.Int.{ints}
-use Rattle.std.proofs.Math.IntN.{*ℤ_comm}
-use Rattle.std.proofs.Math.Nat.{mul_assoc}
-use Rattle.font_base.specs.Integers.{product-times}
-use Rattle.font_base.specs.Wrap.{wrap, FitsBits}
-use Rattle.font_base.specs.Wrap.Laws.{wrap-add_left, wrap-add_right, wrap-fits}
-use Rattle.font_decimal.specs.Near.{Near, near}
-use Rattle.font_decimal.proofs.Integers.{times_monotone}
-use Rattle.font_decimal.proofs.Near.{near_is, near_gives, near_monotone}
-use Rattle.font_fixed.proofs.Calls.{fits_32}
-use Rattle.font_fixed.specs.Operations.{IsMulDiv}
-use Rattle.font_fixed.proofs.NumberLaws.{near_exact}
-use Rattle.std.proofs.lemmas.Bool.Decides.{nat_tests}
+use Rattle.std.proofs.Common.{◌≡◌, ◌≢◌, ◌∙◌, sym, ap, refl, lit<, arith, ℕ, zero, suc, ◌+◌, ◌-◌, ℤ, pos, negsuc, ◌*◌}
+use Rattle.std.proofs.Common.{◌<◌, neg_ℤ, ◌+ℤ◌, ◌-ℤ◌, ◌*ℤ◌, ◌≤ℤ◌, ◌<ℤ◌, unsigned_abs, w16, w32, SFits}
 use Rattle.std.proofs.lemmas.Grind.{common_steps}
+use Rattle.std.proofs.{lemmas.Int.ints, Math.IntN.*ℤ_comm, Math.Nat.mul_assoc, lemmas.Bool.Decides.nat_tests}
+use Rattle.font_base.specs.Wrap.Laws.{wrap-add_left, wrap-add_right, wrap-fits}
+use Rattle.font_base.specs.{Integers.product-times, Wrap.wrap, Wrap.FitsBits}
+use Rattle.font_decimal.specs.Near.{Near, near}
+use Rattle.font_decimal.proofs.{Integers.times_monotone, Near.near_is, Near.near_gives, Near.near_monotone}
+use Rattle.font_fixed.proofs.{Calls.fits_32, NumberLaws.near_exact}
+use Rattle.font_fixed.specs.Operations.{IsMulDiv}
 
 -- a product by a number from 0 to m lies between 0 and m times the other number
 rises : (x y : ℤ) (m : ℕ) → pos 0 ≤ℤ x → pos 0 ≤ℤ y → y ≤ℤ pos m → (pos 0 ≤ℤ (x *ℤ y)) × ((x *ℤ y) ≤ℤ (x *ℤ pos m))

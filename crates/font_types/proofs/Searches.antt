@@ -1,19 +1,14 @@
 -- The results of searches, in the form of their callers' goals: in an array of glyph ids, and among records sorted by
 -- a number.
-use Rattle.std.proofs.Common.{◌≡◌, ◌≢◌, ◌<◌, ◌≤◌, ◌^◌, ℕ, pos, nat_lt, refl, List}
-use Rattle.std.proofs.Common.{Result, IfOk, IfErr, IfSome, IfNone, MatchResult}
-use Rattle.std.specs.Result.{result_ok}
-use Rattle.std.specs.List.{All, HoldsAt}
-use Rattle.std.specs.List.Sorted.{IsSortedByKey, IsBinarySearchResult}
-use Rattle.std.specs.Ordering.{nat_cmp}
-use Rattle.std.specs.declared.cmp.Ordering.TheVariants.{Equal}
+use Rattle.std.proofs.Common.{◌≡◌, ◌≢◌, ◌<◌, ◌≤◌, ◌^◌, ℕ, pos, nat_lt, refl, List, Result, IfOk, IfErr, IfSome, IfNone}
+use Rattle.std.proofs.Common.{MatchResult, arith}
+use Rattle.std.specs.{Result.result_ok, List.All, List.HoldsAt, List.Sorted.IsSortedByKey}
+use Rattle.std.specs.{List.Sorted.IsBinarySearchResult, Ordering.nat_cmp, declared.cmp.Ordering.TheVariants.Equal}
 use Rattle.font_base.specs.Bytes.{numeral, bytes_of}
 use Rattle.font_base.specs.Elements.{element, StoresOne, Rises, Splits}
 use Rattle.font_base.proofs.ScalarCalls.{absent, array_calls, number_found, numeral_found, number_absent}
 use Rattle.font_base.proofs.ScalarCalls.{IsSearchedWord, word_numeral, word_absent}
-use Rattle.font_ids.specs.declared.glyph_id.GlyphId16.{GlyphId16}
-use Rattle.font_ids.specs.GlyphId.{glyph16_number}
-use Rattle.std.proofs.Common.{arith}
+use Rattle.font_ids.specs.{declared.glyph_id.GlyphId16.GlyphId16, GlyphId.glyph16_number}
 
 module _ (bytes : List ℕ) (n : ℕ) (key : GlyphId16) (result : Result ℕ ℕ) where
   abbrev IsSearchedGlyph : Type 0

@@ -1,8 +1,6 @@
 -- Products of two 16-bit numbers: bounds, so that sums and differences of them fit too.
-use Rattle.std.proofs.Common.{◌≤◌, ◌^◌, ℤ, pos, neg_ℤ, ◌*ℤ◌, ◌≤ℤ◌, arith, w16, w32, w64, SFits}
-use Rattle.std.proofs.Common.{unsigned_abs}
-use Rattle.std.proofs.Math.Nat.{mul-le-mul}
-use Rattle.std.proofs.lemmas.Int.{ints, to_z-of_z, unsigned_abs-mul}
+use Rattle.std.proofs.Common.{◌≤◌, ◌^◌, ℤ, pos, neg_ℤ, ◌*ℤ◌, ◌≤ℤ◌, arith, w16, w32, w64, SFits, unsigned_abs}
+use Rattle.std.proofs.{Math.Nat.mul-le-mul, lemmas.Int.ints, lemmas.Int.to_z-of_z, lemmas.Int.unsigned_abs-mul}
 
 short : (a : ℤ) → SFits w16 a → unsigned_abs a ≤ 2 ^ 15
 short a fits = omega (arith, ints, fits)

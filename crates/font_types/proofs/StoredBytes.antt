@@ -1,17 +1,12 @@
 -- Stored bytes: `==` compares those of numbers; a number just read has a shortest text; and the numbers of 24-bit
 -- integers.
 use Rattle.std.proofs.Common.{◌≡◌, ◌∙◌, ℕ, ◌≤◌, ℤ, sym, lit<, arith, Bool, List, length}
-use Rattle.std.proofs.Math.Nat.{pow-le-pow_right}
-use Rattle.std.proofs.lemmas.Int.{ints}
-use Rattle.std.specs.Prelude.{IsTrue}
-use Rattle.std.specs.Str.{bytes_eq}
-use Rattle.std.proofs.lemmas.Slice.Eq.{bytes_eq-Decides}
+use Rattle.std.proofs.{Math.Nat.pow-le-pow_right, lemmas.Int.ints, lemmas.Slice.Eq.bytes_eq-Decides}
+use Rattle.std.specs.{Prelude.IsTrue, Str.bytes_eq}
 use Rattle.font_base.specs.Bytes.{are_bytes, bytes_of, numeral, signed_numeral, IsBytesOf}
 use Rattle.font_base.specs.Bytes.Laws.{bytes_of_is, bytes_of_are, bytes_unique, numeral_below, FitsBits-signed_numeral}
-use Rattle.font_base.specs.Int24.{int24_number, int24_of}
-use Rattle.font_base.specs.Int24.Laws.{int24_number-of}
-use Rattle.font_base.specs.Uint24.{uint24_number, uint24_of}
-use Rattle.font_base.specs.Uint24.Laws.{uint24_number-of}
+use Rattle.font_base.specs.{Int24.int24_number, Int24.int24_of, Int24.Laws.int24_number-of, Uint24.uint24_number}
+use Rattle.font_base.specs.{Uint24.uint24_of, Uint24.Laws.uint24_number-of}
 use Rattle.font_decimal.specs.Shortest.{IsShortest, shortest_text}
 use Rattle.font_decimal.proofs.Printed.{shortest_is}
 

@@ -1,26 +1,17 @@
 -- Sums that wrap at each step: each is the exact sum, wrapped.
 use Rattle.std.proofs.Common.{◌≡◌, ◌∙◌, sym, ap, ℕ, ◌+◌, ◌<◌, List, length, take, get_or, ℤ, pos, ◌+ℤ◌, lit<, arith}
 use Rattle.std.proofs.Common.{◌≤◌, ◌++◌, ◌*ℤ◌, ◌%◌, ◌^◌, w16, w32, SFits, to_z, of_z, refl, lit≤, unsigned_abs}
-use Rattle.std.specs.Int.{w128}
-use Rattle.std.proofs.Math.IntN.{+ℤ_assoc}
 use Rattle.std.proofs.lemmas.Int.{ints, wrapping_add_onto}
-use Rattle.std.proofs.Math.Nat.{mul-le-mul}
-use Rattle.std.proofs.lemmas.List.{take_all}
-use Rattle.std.proofs.lemmas.List.Sums.{fold_more}
-use Rattle.font_base.proofs.Moved.{bytes_moved}
-use Rattle.font_base.proofs.Widths.{int_wrap-wrap}
+use Rattle.std.proofs.{Math.IntN.+ℤ_assoc, Math.Nat.mul-le-mul, lemmas.List.take_all, lemmas.List.Sums.fold_more}
+use Rattle.std.specs.Int.{w128}
+use Rattle.font_base.proofs.{Moved.bytes_moved, Widths.int_wrap-wrap}
 use Rattle.font_base.specs.Wrap.{wrap, FitsBits}
 use Rattle.font_base.specs.Wrap.Laws.{wrap-add_left, wrap-add_right, wrap-fits, wrap-wrap}
-use Rattle.font_fixed.proofs.Calls.{fits_16}
-use Rattle.font_fixed.proofs.Wrapped.{wrapping_add-wrap}
-use Rattle.font_fixed.specs.Fixed.{Fixed, fixed_bits}
-use Rattle.font_fixed.specs.F26Dot6.{f26dot6_bits}
-use Rattle.font_fixed.specs.F48Dot16.{f48dot16_bits}
-use Rattle.font_fixed.proofs.FixedCalls.{fixed_calls}
+use Rattle.font_fixed.proofs.{Calls.fits_16, Wrapped.wrapping_add-wrap, FixedCalls.fixed_calls}
+use Rattle.font_fixed.specs.{Fixed.Fixed, Fixed.fixed_bits, F26Dot6.f26dot6_bits, F48Dot16.f48dot16_bits}
 use Rattle.font_geom.specs.declared.point.Point.{Point}
 use Rattle.font_ids.specs.FWord.{fword_number}
-use Rattle.font_types.specs.Delta.{total, term_product, exact_sum}
-use Rattle.font_types.specs.Delta.Laws.{total-append}
+use Rattle.font_types.specs.{Delta.total, Delta.term_product, Delta.exact_sum, Delta.Laws.total-append}
 
 -- one term more, of a list of anything
 pub running_total : {T : Type 0} (w : ℕ) (number_of : T → ℤ) (xs : List T) (i : ℕ) (d : T) → 0 < w → i < length xs

@@ -1,7 +1,6 @@
 -- The bytes of a table outside of a field that is written: those of other fields are as they were.
 use Rattle.std.proofs.Common.{◌≡◌, ◌∙◌, sym, ap, ℕ, ◌+◌, ◌-◌, ◌≤◌, ◌++◌, List, take, drop, arith, refl}
-use Rattle.std.proofs.Math.Seq.{take-add}
-use Rattle.std.proofs.lemmas.List.{take-take, drop-drop, drop-take}
+use Rattle.std.proofs.{Math.Seq.take-add, lemmas.List.take-take, lemmas.List.drop-drop, lemmas.List.drop-take}
 
 dropped_on : (end m : ℕ) (xs : List ℕ) → end ≤ m → drop (m - end) (drop end xs) ≡ drop m xs
 dropped_on end m xs within = grind (arith, drop-drop)

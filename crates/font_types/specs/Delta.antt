@@ -3,11 +3,10 @@
 -- A joined list has the sum of both, and the order of the terms does not matter (lemmas `total-append`,
 -- `total-permuted`).
 pub mod Laws
-use Rattle.std.specs.Prelude.{ℕ, zero, suc, List, fold, Option, Some, None, option_map, if◌then◌else◌}
-use Rattle.std.specs.Prelude.{ℤ, pos, ◌+ℤ◌, ◌*ℤ◌}
+use Rattle.std.specs.Prelude.{ℕ, zero, suc, List, fold, Option, Some, None, option_map, if◌then◌else◌, ℤ, pos, ◌+ℤ◌}
+use Rattle.std.specs.Prelude.{◌*ℤ◌}
 use Rattle.font_base.specs.Wrap.{fits_bits}
-use Rattle.font_fixed.specs.Fixed.{Fixed}
-use Rattle.font_fixed.specs.Fixed.{fixed_bits}
+use Rattle.font_fixed.specs.Fixed.{Fixed, fixed_bits}
 
 -- the exact sum of an integer for each element of a list
 abbrev pub total : {T : Type 0} → (T → ℤ) → List T → ℤ

@@ -5,12 +5,10 @@ use Rattle.std.specs.Prelude.{option_and_then, is_some, pos, IsUtf8, Result, Ok,
 use Rattle.std.specs.Result.{result_map_both}
 use Rattle.serde_json.specs.Data.{Data, object, member, no_members, number, unsigned}
 use Rattle.serde_json.specs.Find.{as_number, as_integer, as_object, as_str, get, of_integer}
-use Rattle.font_decimal.specs.Grammar.{IsNoDecimal}
+use Rattle.font_decimal.specs.{Grammar.IsNoDecimal, declared.reader.DecimalFault.DecimalFault}
 use Rattle.font_fixed.specs.Operations.{ReadsBits, IsTooFar, least, greatest}
-use Rattle.font_decimal.specs.declared.reader.DecimalFault.{DecimalFault}
-use Rattle.font_tags.specs.declared.tag.Tag.{Tag}
-use Rattle.font_tags.specs.declared.version.MajorMinor.{MajorMinor}
 use Rattle.font_tags.specs.Tag.{tag_bytes, IsGood, IsAcceptable, filled}
+use Rattle.font_tags.specs.{declared.tag.Tag.Tag, declared.version.MajorMinor.MajorMinor}
 use Rattle.font_types.specs.declared.json.JsonFault.{JsonFault}
 use Rattle.font_types.specs.declared.json.JsonFault.TheVariants.{Memory, WrongKind, OutOfRange, Syntax, NotUtf8}
 use Rattle.font_types.specs.declared.json.JsonFault.TheVariants.{InvalidTag, MissingMember}

@@ -1,11 +1,9 @@
 //! Sums of deltas.
 
-ghost use Rattle.std.specs.Prelude.{◌≡◌, ◌↔◌, ◌≤◌, ◌+◌, ◌^◌, ◌+ℤ◌, ◌*ℤ◌, pos, unsigned_abs};
-ghost use Rattle.std.specs.Prelude.{IsSome, IfSome, option_map};
+ghost use Rattle.std.specs.Prelude.{◌≡◌, ◌↔◌, ◌≤◌, ◌+◌, ◌^◌, ◌+ℤ◌, ◌*ℤ◌, pos, unsigned_abs, IsSome};
+ghost use Rattle.std.specs.Prelude.{IfSome, option_map};
 ghost use Rattle.font_base.specs.Wrap.{wrap, FitsBits};
-ghost use Rattle.font_fixed.specs.Operations.{WrapsTo};
-ghost use Rattle.font_fixed.specs.Fixed.{fixed_bits};
-ghost use Rattle.font_fixed.specs.F48Dot16.{f48dot16_bits};
+ghost use Rattle.font_fixed.specs.{Operations.WrapsTo, Fixed.fixed_bits, F48Dot16.f48dot16_bits};
 ghost use Rattle.font_ids.specs.FWord.{fword_number};
 ghost use Rattle.font_types.specs.Delta.{exact_sum, sum_in_range, term_product, varied};
 ghost use Rattle.font_types.specs.DeltaSum.{steps_of};

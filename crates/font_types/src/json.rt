@@ -3,9 +3,7 @@
 ghost use Rattle.std.specs.Prelude.{◌≡◌, Ok, Bool, IsTrue, Some, IfOk, IfErr, Option, Result};
 ghost use Rattle.std.specs.Prelude.{MatchResult, pos, List, None, ◌≤◌, ◌≤ℤ◌, ◌^◌};
 ghost use Rattle.std.specs.Result.{result_map_both};
-ghost use Rattle.serde_json.specs.Data.{Data};
-ghost use Rattle.serde_json.specs.Find.{as_str};
-ghost use Rattle.serde_json.specs.View.{view};
+ghost use Rattle.serde_json.specs.{Data.Data, Find.as_str, View.view};
 ghost use Rattle.font_types.specs.Json.{JsonForm, number_within};
 ghost use Rattle.font_types.specs.declared.json.JsonFault.{JsonFault};
 ghost use Rattle.font_types.specs.declared.json.JsonFault.TheVariants.{Memory};

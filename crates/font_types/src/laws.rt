@@ -3,8 +3,7 @@
 ghost use Rattle.std.specs.Prelude.{◌≡◌, ◌++◌};
 ghost use Rattle.font_base.specs.Wrap.{wrap};
 ghost use Rattle.font_fixed.specs.F48Dot16.{f48dot16_bits};
-ghost use Rattle.font_types.specs.Delta.{exact_sum};
-ghost use Rattle.font_types.specs.DeltaSum.{steps_of};
+ghost use Rattle.font_types.specs.{Delta.exact_sum, DeltaSum.steps_of};
 
 use crate::delta::sum_of;
 pub use crate::json::round_trip;

@@ -1,34 +1,23 @@
 -- The bytes that a read number gives, and that an input has one output: each definition on the way from a line to its
 -- text has one result.
-use Rattle.std.proofs.Common.{◌≡◌, ℕ, List, refl, sym, Result, rules, [], ◌∷◌, ◌++◌, Ok, ◌∙◌, ℤ, ◌/◌}
-use Rattle.std.proofs.Common.{Bool, arith, append_assoc, append-nil, length, slice_index}
-use Rattle.fontval.specs.Error.{Answer, GivesAnswer}
-use Rattle.fontval.specs.declared.error.LineError.{LineError}
-use Rattle.fontval.specs.declared.error.CommandError.{CommandError}
-use Rattle.std.specs.Result.{result_map_both}
-use Rattle.font_types.specs.Bytes.{bytes_of}
-use Rattle.font_types.specs.DecimalFault.{DecimalFault}
-use Rattle.font_types.specs.NumberReading.{ParsesFixedPoint}
-use Rattle.std.specs.Int.{Width}
-use mir.Val.{bits}
-use Rattle.font_types.specs.Tag.{IsValidated, byte_text, tag_text}
-use Rattle.fontval.specs.Command.{AnswersWords, ReportsTag, IsNamedType, ShowsParsed, fixed_row}
-use Rattle.fontval.specs.Command.{IsAnswer, IsNamed, ShowsBytes}
-use Rattle.fontval.specs.Numbers.{ScansNumber, ScansFixed, ScansInteger, ScansTerm, CollectsEach}
-use Rattle.fontval.specs.Numbers.{CollectsFixed, CollectsTerms, AndThen, pairs_of}
-use Rattle.fontval.specs.Deltas.{Varies, varied_answer}
-use Rattle.fontval.proofs.WordByWord.{even_terms}
-use Rattle.fontval.specs.Images.{ShowsImages}
-use Rattle.font_types.specs.Fixed.{Fixed}
-use Rattle.fontval.specs.declared.command.Command.{Command}
+use Rattle.std.proofs.Common.{◌≡◌, ℕ, List, refl, sym, Result, rules, [], ◌∷◌, ◌++◌, Ok, ◌∙◌, ℤ, ◌/◌, Bool, arith}
+use Rattle.std.proofs.Common.{append_assoc, append-nil, length, slice_index}
+use Rattle.fontval.specs.Command.{AnswersWords, ReportsTag, IsNamedType, ShowsParsed, fixed_row, IsAnswer, IsNamed}
+use Rattle.fontval.specs.Command.{ShowsBytes}
+use Rattle.fontval.specs.Numbers.{ScansNumber, ScansFixed, ScansInteger, ScansTerm, CollectsEach, CollectsFixed}
+use Rattle.fontval.specs.Numbers.{CollectsTerms, AndThen, pairs_of}
 use Rattle.fontval.specs.declared.command.Command.TheVariants.{FixedPoint, Read, Image, Vary, Integer, Tag, Sum}
-use Rattle.fontval.specs.declared.command.FixedType.{FixedType}
-use Rattle.std.specs.Bool.{MatchBool}
-use Rattle.font_types.specs.Fixed.{fixed_of}
-use Rattle.font_types.proofs.Callers.{reading_unique, validated_good}
-use Rattle.fontval.specs.Answers.Laws.{answers_in_turn}
 use Rattle.fontval.specs.Answers.{Answers, AnswersLine, AnswersLines, AppendsAnswer}
-use Rattle.fontval.specs.Text.{lines_of, words_of}
+use Rattle.fontval.specs.{Error.Answer, Error.GivesAnswer, declared.error.LineError.LineError}
+use Rattle.fontval.specs.{declared.error.CommandError.CommandError, Deltas.Varies, Deltas.varied_answer}
+use Rattle.fontval.specs.{Images.ShowsImages, declared.command.Command.Command, declared.command.FixedType.FixedType}
+use Rattle.fontval.specs.{Answers.Laws.answers_in_turn, Text.lines_of, Text.words_of}
+use Rattle.std.specs.{Result.result_map_both, Int.Width, Bool.MatchBool}
+use Rattle.font_types.specs.{Bytes.bytes_of, DecimalFault.DecimalFault, NumberReading.ParsesFixedPoint, Tag.IsValidated}
+use Rattle.font_types.specs.{Tag.byte_text, Tag.tag_text, Fixed.Fixed, Fixed.fixed_of}
+use mir.Val.{bits}
+use Rattle.fontval.proofs.WordByWord.{even_terms}
+use Rattle.font_types.proofs.Callers.{reading_unique, validated_good}
 
 -- an answer that is right by one rule is right by another
 pub given_as : (IsRight IsMeant : Answer → Type 0) (old new : List ℕ) (outcome : Result (Unit {0}) CommandError)

@@ -1,11 +1,9 @@
 -- The digits of integers in a buffer.
-use Rattle.std.proofs.Common.{◌≡◌, ℕ, ◌/◌, ◌%◌, ◌+◌, ◌<◌, ◌≤◌, [], ◌∷◌, ◌++◌, ◌^◌, ℤ, pos, negsuc}
-use Rattle.std.proofs.Common.{length, length-append, arith}
-use Rattle.std.proofs.Common.{decimal, length-drop, append_assoc, unsigned_abs, take_all, ◌∙◌}
-use Rattle.std.specs.Fmt.{sign_text, signed_decimal}
-use Rattle.std.specs.Int.{is_negative}
+use Rattle.std.proofs.Common.{◌≡◌, ℕ, ◌/◌, ◌%◌, ◌+◌, ◌<◌, ◌≤◌, [], ◌∷◌, ◌++◌, ◌^◌, ℤ, pos, negsuc, length}
+use Rattle.std.proofs.Common.{length-append, arith, decimal, length-drop, append_assoc, unsigned_abs, take_all, ◌∙◌}
 use Rattle.std.proofs.lemmas.Fmt.{decimal_digit, decimal_step, length-decimal-le}
 use Rattle.std.proofs.lemmas.List.{drop-set}
+use Rattle.std.specs.{Fmt.sign_text, Fmt.signed_decimal, Int.is_negative}
 
 -- the digits of a number from the last two on
 pub decimal_pair : (n : ℕ) → 100 ≤ n → n < 2 ^ 64

@@ -1,16 +1,13 @@
 -- The first line of an input, and the first word of a line.
 use Rattle.std.proofs.Common.{◌≡◌, ℕ, suc, ◌+◌, ◌<◌, List, [], ◌∷◌, length, refl, ap, arith, inl, inr, ◌≤◌, ◌∙◌, Some}
 use Rattle.std.proofs.Common.{None, drop-cons, not, position, filter, drop, take_all}
-use Rattle.std.proofs.Math.Numerals.{one-add}
-use Rattle.std.specs.List.{position_or_len, before_first, after_first, onto_first, slice_split}
 use Rattle.std.proofs.lemmas.Bool.{cases_Bool, cases_lt, not-true}
-use Rattle.fontval.specs.Text.{is_line_feed, lines_of, is_blank, is_nonempty, from_first, words_of}
-use Rattle.std.proofs.lemmas.Grind.{common_steps}
-use Rattle.std.proofs.lemmas.List.{drop_all, nil_from_length}
-use Rattle.std.proofs.lemmas.List.Quantifiers.{position-Some}
 use Rattle.std.proofs.lemmas.List.Splits.{length-slice_split, slice_split_first, slice_split_none}
 use Rattle.std.proofs.lemmas.List.Sums.{length-filter, fails_before_first}
-use Rattle.std.proofs.lemmas.Option.{cond_some}
+use Rattle.std.proofs.{Math.Numerals.one-add, lemmas.Grind.common_steps, lemmas.List.drop_all}
+use Rattle.std.proofs.{lemmas.List.nil_from_length, lemmas.List.Quantifiers.position-Some, lemmas.Option.cond_some}
+use Rattle.std.specs.List.{position_or_len, before_first, after_first, onto_first, slice_split}
+use Rattle.fontval.specs.Text.{is_line_feed, lines_of, is_blank, is_nonempty, from_first, words_of}
 
 -- an empty input has no line
 pub no_lines : (input : List ℕ) → length input ≡ 0 → lines_of input ≡ []

@@ -2,16 +2,12 @@
 use Rattle.std.proofs.Common.{◌≡◌, List, [], ◌∷◌, ◌++◌, Result, Ok, Err, refl, ◌∙◌, append_assoc, append-nil, ◌≢◌, ℕ, ℤ}
 use Rattle.std.proofs.Common.{◌+◌, ◌<◌, arith, length, take, set, ap, length-set, ◌%◌, ◌-◌, ◌*◌, min, get_or}
 use Rattle.std.proofs.Common.{if◌then◌else◌, ◌==◌, ◌≤◌, inl, inr, true}
-use Rattle.std.proofs.lemmas.Bool.{cases_Bool}
-use Rattle.fontval.specs.Numbers.{CollectsEach, ScansFixed, CollectsFixed, ScansTerm, CollectsTerms, pairs_of}
-use Rattle.fontval.specs.declared.error.LineError.{LineError}
-use Rattle.fontval.specs.declared.error.LineError.TheVariants.{WordCount}
-use Rattle.std.proofs.lemmas.List.{take_more_set}
-use Rattle.font_types.specs.Fixed.{Fixed}
-use Rattle.std.specs.Char.{IsAsciiDigit}
-use Rattle.std.specs.Str.Parse.{digits_value}
-use Rattle.std.proofs.lemmas.Int.Digits.{digits_value_more}
 use Rattle.std.proofs.lemmas.Grind.{common_steps}
+use Rattle.std.proofs.{lemmas.Bool.cases_Bool, lemmas.List.take_more_set, lemmas.Int.Digits.digits_value_more}
+use Rattle.fontval.specs.Numbers.{CollectsEach, ScansFixed, CollectsFixed, ScansTerm, CollectsTerms, pairs_of}
+use Rattle.fontval.specs.{declared.error.LineError.LineError, declared.error.LineError.TheVariants.WordCount}
+use Rattle.font_types.specs.Fixed.{Fixed}
+use Rattle.std.specs.{Char.IsAsciiDigit, Str.Parse.digits_value}
 
 -- the words before `left` are read as these values, and the values of `left` complete them
 pub record IsReadUpTo {W T : Type 0} (reads : W → Result T LineError → Type 0) (words left : List W)

@@ -1,10 +1,7 @@
 -- Writing in parts.
-use Rattle.std.proofs.Common.{◌≡◌, ℕ, List, ◌++◌, sym, ap, ◌∙◌, append_assoc, Option, take}
-use Rattle.std.proofs.Common.{drop, length, arith, ◌-◌}
-use Rattle.std.proofs.lemmas.List.{take-append-drop}
-use Rattle.std.proofs.lemmas.Slice.{between_to_end}
+use Rattle.std.proofs.Common.{◌≡◌, ℕ, List, ◌++◌, sym, ap, ◌∙◌, append_assoc, Option, take, drop, length, arith, ◌-◌}
+use Rattle.std.proofs.{lemmas.List.take-append-drop, lemmas.Slice.between_to_end, KnownBytes.Appends-trans}
 use Rattle.std.specs.Io.KnownBytes.{Appends}
-use Rattle.std.proofs.KnownBytes.{Appends-trans}
 
 -- the bytes before `rest` were written
 pub record IsWrittenUpTo (taken taken' : Option (List ℕ)) (bytes rest : List ℕ) : Type 0 where

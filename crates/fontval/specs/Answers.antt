@@ -2,9 +2,7 @@
 -- that is cut after a line feed are those to the first part and then those to the second (lemma `answers_in_turn`).
 pub mod Laws
 use Rattle.std.specs.Prelude.{◌≡◌, ℕ, List, [], ◌∷◌, ◌++◌}
-use Rattle.fontval.specs.Command.{IsAnswer}
-use Rattle.fontval.specs.Error.{Answer, answer_text}
-use Rattle.fontval.specs.Text.{lines_of, words_of}
+use Rattle.fontval.specs.{Command.IsAnswer, Error.Answer, Error.answer_text, Text.lines_of, Text.words_of}
 
 -- the text answers the line: it shows what is answered to the line's words
 pub record AnswersLine (line text : List ℕ) : Type 0 where

@@ -3,28 +3,20 @@
 -- All of it is the program's own rule, but for what the bytes of a type mean.
 use Rattle.std.specs.Prelude.{◌≡◌, ◌≢◌, ℕ, ℤ, pos, ◌/◌, Bool, true, false, if◌then◌else◌, List, [], ◌∷◌, ◌++◌, codes}
 use Rattle.std.specs.Prelude.{decimal, Result, Ok, Err, MatchResult}
-use Rattle.std.specs.Fmt.{signed_decimal}
-use Rattle.std.specs.Result.{result_flatten, result_map_both}
+use Rattle.std.specs.{Fmt.signed_decimal, Result.result_flatten, Result.result_map_both}
 use Rattle.hex.specs.Hex.{decode_sized, encode_lower}
-use Rattle.font_types.specs.Bytes.{numeral, signed_numeral, bytes_of}
-use Rattle.font_types.specs.DecimalFault.{DecimalFault}
-use Rattle.font_types.specs.Shortest.{shortest_text}
-use Rattle.font_types.specs.Tag.{IsValidated, tag_text}
-use Rattle.font_types.specs.InvalidTag.{InvalidTag}
 use Rattle.font_types.specs.InvalidTag.TheVariants.{InvalidLength, InvalidByte, ByteAfterSpace}
-use Rattle.fontval.specs.Error.{Answer, line_error_of}
+use Rattle.font_types.specs.{Bytes.numeral, Bytes.signed_numeral, Bytes.bytes_of, DecimalFault.DecimalFault}
+use Rattle.font_types.specs.{Shortest.shortest_text, Tag.IsValidated, Tag.tag_text, InvalidTag.InvalidTag}
 use Rattle.fontval.specs.Numbers.{AndThen, CollectsFixed, ScansNumber, CollectsTerms}
-use Rattle.fontval.specs.Deltas.{ShowsSum, Varies}
-use Rattle.fontval.specs.Images.{ShowsImages}
-use Rattle.fontval.specs.declared.command.Command.{Command}
 use Rattle.fontval.specs.declared.command.Command.TheVariants.{Integer, FixedPoint, Read, Tag, Image, Sum, Vary}
-use Rattle.fontval.specs.declared.command.FixedType.{FixedType}
+use Rattle.fontval.specs.{Error.Answer, Error.line_error_of, Deltas.ShowsSum, Deltas.Varies, Images.ShowsImages}
+use Rattle.fontval.specs.{declared.command.Command.Command, declared.command.FixedType.FixedType}
 use Rattle.fontval.specs.declared.command.FixedType.TheVariants as types
-use Rattle.fontval.specs.declared.command.IntegerType.{IntegerType}
 use Rattle.fontval.specs.declared.command.IntegerType.TheVariants.{Uint8, Int8, Uint16, Int16, Uint24, Int24, Uint32}
 use Rattle.fontval.specs.declared.command.IntegerType.TheVariants.{Int32, Int64}
-use Rattle.fontval.specs.declared.error.LineError.{LineError}
 use Rattle.fontval.specs.declared.error.LineError.TheVariants.{UnknownCommand, WordCount, NotHexadecimal}
+use Rattle.fontval.specs.{declared.command.IntegerType.IntegerType, declared.error.LineError.LineError}
 
 -- ---- the commands
 

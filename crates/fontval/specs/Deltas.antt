@@ -1,11 +1,7 @@
 -- Sums of deltas, as text. Each term is a scalar and an integer of font units.
 use Rattle.std.specs.Prelude.{◌≡◌, ℕ, ◌%◌, ◌==◌, List, [], ◌∷◌, length, ℤ, option_map, Err}
-use Rattle.std.specs.Bool.{MatchBool}
-use Rattle.std.specs.Fmt.{signed_decimal}
-use Rattle.std.specs.Option.{ok_or}
-use Rattle.font_types.specs.Delta.{sum_in_range, varied}
-use Rattle.font_types.specs.Shortest.{shortest_text}
-use Rattle.font_types.specs.Fixed.{Fixed}
+use Rattle.std.specs.{Bool.MatchBool, Fmt.signed_decimal, Option.ok_or}
+use Rattle.font_types.specs.{Delta.sum_in_range, Delta.varied, Shortest.shortest_text, Fixed.Fixed}
 use Rattle.fontval.specs.Numbers.{AndThen, CollectsTerms, ScansInteger}
 use Rattle.fontval.specs.Error.{Answer}
 use Rattle.fontval.specs.declared.error.LineError.TheVariants.{WordCount, OutOfRange}

@@ -3,11 +3,10 @@
 use Rattle.std.specs.Prelude.{◌≡◌, ℕ, List, ◌++◌, codes, decimal, Result, Ok, Err, ⊤}
 use Rattle.font_types.specs.DecimalFault.{DecimalFault}
 use Rattle.font_types.specs.DecimalFault.TheVariants.{Syntax, OutOfRange as TooFar}
-use Rattle.fontval.specs.declared.error.LineError.{LineError}
 use Rattle.fontval.specs.declared.error.LineError.TheVariants.{UnknownCommand, WordCount, NotHexadecimal, NotDecimal}
 use Rattle.fontval.specs.declared.error.LineError.TheVariants.{OutOfRange, NotInteger}
-use Rattle.fontval.specs.declared.error.CommandError.{CommandError}
 use Rattle.fontval.specs.declared.error.CommandError.TheVariants.{Memory, Line}
+use Rattle.fontval.specs.{declared.error.LineError.LineError, declared.error.CommandError.CommandError}
 
 -- an answer: a text, or why there is none
 abbrev pub Answer : Type 0

@@ -1,11 +1,8 @@
 -- The images of a point under two matrices, composed and in turn, as text.
 use Rattle.std.specs.Prelude.{◌≡◌, ℕ, ℤ, List, [], ◌∷◌, ◌++◌, codes, Ok}
-use Rattle.font_types.specs.Shortest.{shortest_text}
-use Rattle.font_types.specs.Fixed.{Fixed}
-use Rattle.font_types.specs.matrix.Matrix.{Matrix}
-use Rattle.font_types.specs.point.Point.{Point}
 use Rattle.font_types.specs.Matrix.{elements_of, image_of, matrix_product}
 use Rattle.font_types.specs.FixedMatrix.{matrix_bits, point_bits, wrapped_sum, wrapped_product}
+use Rattle.font_types.specs.{Shortest.shortest_text, Fixed.Fixed, matrix.Matrix.Matrix, point.Point.Point}
 use Rattle.fontval.specs.Error.{Answer}
 
 -- the coordinates of a point, which are given as raw values

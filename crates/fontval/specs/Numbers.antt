@@ -2,17 +2,12 @@
 -- All of it is the program's own rule, but for what a decimal text is read as.
 use Rattle.std.specs.Prelude.{◌≡◌, ℕ, ◌%◌, ◌==◌, if◌then◌else◌, List, [], ◌∷◌, length, drop, ℤ, Result, Ok, Err}
 use Rattle.std.specs.Prelude.{MatchResult}
-use Rattle.std.specs.Bool.{MatchBool}
-use Rattle.std.specs.Result.{result_map_both}
 use Rattle.std.specs.Str.Parse.{IsNumeral, starts_with_minus, signed_digits_value}
-use Rattle.font_types.specs.DecimalFault.{DecimalFault}
-use Rattle.font_types.specs.Fixed.{fixed_of}
-use Rattle.font_types.specs.Fixed.{Fixed}
-use Rattle.font_types.specs.Operations.{ParsesBits}
-use Rattle.font_types.specs.Wrap.{FitsBits}
-use Rattle.fontval.specs.Error.{line_error_of}
-use Rattle.fontval.specs.declared.error.LineError.{LineError}
+use Rattle.std.specs.{Bool.MatchBool, Result.result_map_both}
+use Rattle.font_types.specs.Fixed.{fixed_of, Fixed}
+use Rattle.font_types.specs.{DecimalFault.DecimalFault, Operations.ParsesBits, Wrap.FitsBits}
 use Rattle.fontval.specs.declared.error.LineError.TheVariants.{WordCount, NotInteger, OutOfRange}
+use Rattle.fontval.specs.{Error.line_error_of, declared.error.LineError.LineError}
 
 -- the value that is read first decides how reading goes on; if it is an error, that is the result
 pub record AndThen {A B : Type 0} (IsFirst : Result A LineError → Type 0)

@@ -1,9 +1,8 @@
 -- The contract of a run.
 use Rattle.std.specs.Prelude.{◌≡◌, ◌≢◌, ℕ, Bool, true, false, List, [], ◌∷◌, ◌++◌, codes, Option, Result, Ok, Err}
 use Rattle.std.specs.Io.KnownBytes.{Appends, Consumes, IsAtEnd}
-use Rattle.fontval.specs.declared.serve.ServeFault.{ServeFault}
 use Rattle.fontval.specs.declared.serve.ServeFault.TheVariants.{Memory, Read, Write}
-use Rattle.fontval.specs.Answers.{Answers}
+use Rattle.fontval.specs.{declared.serve.ServeFault.ServeFault, Answers.Answers}
 
 -- All that a source had left was read, and the sink took the answers to it and nothing else. `left`
 -- and `taken` are the bytes that are known of the source and the sink.

@@ -2,9 +2,7 @@
 
 ghost use Rattle.std.specs.Prelude.{◌≡◌, ℕ, List, IfOk, OnOk};
 ghost use Rattle.fontval.specs.Answers.{AppendsAnswer, Answers};
-ghost use Rattle.fontval.specs.Command.{IsAnswer};
-ghost use Rattle.fontval.specs.Error.{GivesAnswer};
-ghost use Rattle.fontval.specs.Text.{words_of};
+ghost use Rattle.fontval.specs.{Command.IsAnswer, Error.GivesAnswer, Text.words_of};
 
 use crate::command::Command;
 use crate::error::{CommandError, LineError};

@@ -1,13 +1,11 @@
 //! The commands and their answers.
 
-ghost use Rattle.std.specs.Prelude.{◌≡◌};
-ghost use Rattle.std.specs.Result.{result_map_both};
+ghost use Rattle.std.specs.{Prelude.◌≡◌, Result.result_map_both};
 ghost use Rattle.font_types.specs.Shown.{shown};
-ghost use Rattle.fontval.specs.Command.{AnswersWords, IsNamed, IsNamedType};
-ghost use Rattle.fontval.specs.Command.{ShowsParsed, fixed_point, integer};
+ghost use Rattle.fontval.specs.Command.{AnswersWords, IsNamed, IsNamedType, ShowsParsed};
+ghost use Rattle.fontval.specs.Command.{fixed_point, integer};
 ghost use Rattle.fontval.specs.Deltas.{sum_of, varied_answer};
-ghost use Rattle.fontval.specs.Error.{GivesAnswer};
-ghost use Rattle.fontval.specs.Text.{words_of};
+ghost use Rattle.fontval.specs.{Error.GivesAnswer, Text.words_of};
 
 use crate::error::{CommandError, LineError};
 use crate::images::{Images, append_images};

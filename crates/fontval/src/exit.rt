@@ -1,7 +1,6 @@
 //! The exit status and the message.
 
-ghost use Rattle.std.specs.Prelude.{◌≡◌};
-ghost use Rattle.std.specs.Process.{exit_status};
+ghost use Rattle.std.specs.{Prelude.◌≡◌, Process.exit_status};
 ghost use Rattle.fontval.specs.Serve.{message_of, status_of};
 
 use crate::serve::ServeFault;

@@ -3,8 +3,7 @@
 ghost use Rattle.std.specs.Prelude.{◌≡◌, [], ◌∷◌, ◌++◌, Ok};
 ghost use Rattle.font_types.specs.Matrix.{elements_of};
 ghost use Rattle.font_types.specs.FixedMatrix.{matrix_bits, point_bits};
-ghost use Rattle.fontval.specs.Error.{GivesAnswer};
-ghost use Rattle.fontval.specs.Images.{coordinates_text, images_text};
+ghost use Rattle.fontval.specs.{Error.GivesAnswer, Images.coordinates_text, Images.images_text};
 
 use crate::error::CommandError;
 use crate::output::{append, append_decimal};

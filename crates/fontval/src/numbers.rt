@@ -5,8 +5,7 @@ ghost use Rattle.std.specs.Prelude.{MatchOption, MatchResult};
 ghost use Rattle.std.specs.Str.Parse.{IsNumeral, digits_value, starts_with_minus};
 ghost use Rattle.fontval.specs.Numbers.{ScansFixed, ScansInteger, ScansTerm, CollectsFixed};
 ghost use Rattle.fontval.specs.Numbers.{CollectsTerms, after_minus};
-ghost use Rattle.fontval.specs.Error.{OnLineError};
-ghost use Rattle.fontval.specs.Text.{words_of};
+ghost use Rattle.fontval.specs.{Error.OnLineError, Text.words_of};
 
 use crate::error::{CommandError, LineError};
 use crate::text::Words;

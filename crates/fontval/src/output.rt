@@ -3,8 +3,7 @@
 ghost use Rattle.std.specs.Prelude.{◌≡◌, ◌≤◌, Ok, length};
 ghost use Rattle.hex.specs.Hex.{encode_lower};
 ghost use Rattle.font_types.specs.Shown.{shown};
-ghost use Rattle.fontval.specs.Command.{ShowsBytes};
-ghost use Rattle.fontval.specs.Error.{GivesAnswer};
+ghost use Rattle.fontval.specs.{Command.ShowsBytes, Error.GivesAnswer};
 
 use crate::error::{CommandError, LineError};
 use font_types::{DecimalFault, Scalar, Shortest};

@@ -3,8 +3,7 @@
 ghost use Rattle.std.specs.Prelude.{◌≡◌, ◌<◌, ◌++◌, Ok, true};
 ghost use Rattle.std.specs.Fmt.{digit_glyph};
 ghost use Rattle.font_types.specs.Tag.{byte_text, tag_bytes, tag_text};
-ghost use Rattle.fontval.specs.Command.{ReportsTag, validation_text};
-ghost use Rattle.fontval.specs.Error.{GivesAnswer};
+ghost use Rattle.fontval.specs.{Command.ReportsTag, Command.validation_text, Error.GivesAnswer};
 
 use crate::error::CommandError;
 use crate::integer::append_signed;

@@ -1,7 +1,6 @@
 //! A run: reads all input, makes all answers, and then writes them.
 
-ghost use Rattle.std.specs.Prelude.{◌≡◌, Ok, Err, true, false};
-ghost use Rattle.std.specs.Prelude.{IfOk, IfErr, OnOk, OnErr};
+ghost use Rattle.std.specs.Prelude.{◌≡◌, Ok, Err, true, false, IfOk, IfErr, OnOk, OnErr};
 ghost use Rattle.std.specs.Io.KnownBytes.{Appends, Keeps};
 ghost use Rattle.fontval.specs.Serve.{Serves, ServesInPart, ReadsAll, WritesInPart, ReadFails};
 

@@ -1,14 +1,13 @@
 -- How far rounded scalars, their products and their sums are off the exact ones.
-use Rattle.std.proofs.Common.{◌≡◌, ◌∙◌, refl, ap, lit<, ℕ, suc, ◌+◌, ◌*◌, ◌≤◌, ◌<◌, ◌⊎◌, Bool, true, false}
-use Rattle.std.proofs.Common.{ℤ, pos, negsuc, ◌+ℤ◌, ◌-ℤ◌, ◌*ℤ◌, ◌≤ℤ◌, ◌<ℤ◌, unsigned_abs, int_lt, int_le, arith}
-use Rattle.std.proofs.Common.{Decides, mul-le-mul_right, ⊎_elim, inl, inr, if◌then◌else◌, ◌||◌}
-use Rattle.std.specs.Ordering.{int_eq}
+use Rattle.std.proofs.Common.{◌≡◌, ◌∙◌, refl, ap, lit<, ℕ, suc, ◌+◌, ◌*◌, ◌≤◌, ◌<◌, ◌⊎◌, Bool, true, false, ℤ, pos}
+use Rattle.std.proofs.Common.{negsuc, ◌+ℤ◌, ◌-ℤ◌, ◌*ℤ◌, ◌≤ℤ◌, ◌<ℤ◌, unsigned_abs, int_lt, int_le, arith, Decides}
+use Rattle.std.proofs.Common.{mul-le-mul_right, ⊎_elim, inl, inr, if◌then◌else◌, ◌||◌}
 use Rattle.std.proofs.lemmas.Int.{ints, by_lt_z}
 use Rattle.std.proofs.lemmas.Bool.Decides.{Decides-or, Decides-int_eq, not_from_Decides, nat_tests}
+use Rattle.std.specs.Ordering.{int_eq}
 use borrow.Author.Differences.{up as above, down as below, sum_is_lem, product_is}
-use Rattle.font_types.specs.Wrap.{FitsBits}
-use Rattle.font_types.specs.Near.{Near, up}
 use Rattle.font_types.specs.Operations.{IsProduct, IsQuotient, IsWrappedNear}
+use Rattle.font_types.specs.{Wrap.FitsBits, Near.Near, Near.up}
 use Rattle.font_types.proofs.Callers.{near_is, near_monotone, product_near, wrap-fits}
 use Rattle.variations.specs.Variations.{Fraction, whole, part_of, times, plus, IsOffBy, IsIgnored, IsOffRegion}
 use Rattle.variations.specs.Variations.{IsAxisScalar, is_ignored_axis, exact_axis_scalar}

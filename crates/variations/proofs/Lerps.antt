@@ -1,9 +1,7 @@
 -- The value on the line through two mappings, if nothing overflows.
 use Rattle.std.proofs.Common.{◌≡◌, ◌≢◌, ◌∙◌, ap, lit<, ℤ, pos, ◌+ℤ◌, arith}
-use Rattle.font_types.specs.Wrap.{wrap, FitsBits}
-use Rattle.font_types.specs.Wrap.Laws.{wrap-add_right}
-use Rattle.font_types.specs.Fixed.{fixed_bits, Fixed}
 use Rattle.font_types.specs.Operations.{IsMulDiv, rounded_mul_div}
+use Rattle.font_types.specs.{Wrap.wrap, Wrap.FitsBits, Wrap.Laws.wrap-add_right, Fixed.fixed_bits, Fixed.Fixed}
 use Rattle.font_types.proofs.Callers.{wrap-fits}
 use Rattle.variations.specs.declared.evaluator.AxisValueMap.{AxisValueMap}
 use Rattle.variations.specs.Evaluator.{IsLerp, FitsLerp, lerp_part, lerp_whole, lerp_rise, on_line}

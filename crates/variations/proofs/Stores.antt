@@ -1,13 +1,8 @@
 -- Products along axes and sums of columns: none, and one more; and how far they are off the exact ones.
 use Rattle.std.proofs.Common.{◌≡◌, refl, lit<, ℕ, zero, suc, ◌+◌, ◌-◌, ◌*◌, ℤ, pos, add-one, List, ◌+ℤ◌, ◌*ℤ◌}
 use Rattle.std.proofs.Common.{unsigned_abs, arith, ◌≤◌, ◌<◌, ◌^◌, ◌≤ℤ◌}
-use Rattle.std.proofs.Math.Nat.{mul-add, zero-add}
-use Rattle.std.proofs.lemmas.Int.{ints}
-use Rattle.std.proofs.lemmas.Grind.{common_steps}
-use Rattle.font_types.specs.Operations.{IsProduct}
-use Rattle.font_types.specs.F2Dot14.{F2Dot14}
-use Rattle.font_types.specs.Fixed.{fixed_bits, Fixed}
-use Rattle.font_types.specs.Wrap.{FitsBits}
+use Rattle.std.proofs.{Math.Nat.mul-add, Math.Nat.zero-add, lemmas.Int.ints, lemmas.Grind.common_steps}
+use Rattle.font_types.specs.{Operations.IsProduct, F2Dot14.F2Dot14, Fixed.fixed_bits, Fixed.Fixed, Wrap.FitsBits}
 use Rattle.variations.specs.Variations.{IsScalarOf, IsScalarAlong, IsNearScalar, exact_scalar, IsOffBy, times, whole}
 use Rattle.variations.specs.Variations.{IsSumThrough, IsTerm, IsTermProduct, IsSetSum, IsNearSetSum, IsNearAdvance}
 use Rattle.variations.specs.Variations.{exact_delta, sum_halves, sum_of_magnitudes, region_bytes, region_index}

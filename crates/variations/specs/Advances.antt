@@ -1,6 +1,6 @@
 -- Tables HVAR and item variation stores, from offset to offset.
-use Rattle.std.specs.Prelude.{◌≡◌, ◌≢◌, ℕ, ◌+◌, ◌*◌, ◌<◌, ◌≤◌, ◌/◌, ◌%◌, ◌^◌}
-use Rattle.std.specs.Prelude.{List, length, take, drop, nat_eq, if◌then◌else◌}
+use Rattle.std.specs.Prelude.{◌≡◌, ◌≢◌, ℕ, ◌+◌, ◌*◌, ◌<◌, ◌≤◌, ◌/◌, ◌%◌, ◌^◌, List, length, take, drop, nat_eq}
+use Rattle.std.specs.Prelude.{if◌then◌else◌}
 use Rattle.font_types.specs.Bytes.{numeral}
 use Rattle.variations.specs.Variations.{HasEntry, entry_of, inner_bits}
 

@@ -1,22 +1,14 @@
 -- Values of an evaluator of variations.
-use Rattle.std.specs.Prelude.{◌≡◌, ◌≢◌, ◌⊎◌, ℕ, ◌-◌, ◌<◌, ℤ, pos, neg_ℤ, ◌+ℤ◌, ◌-ℤ◌, ◌≤ℤ◌, ◌<ℤ◌, ◌==◌}
-use Rattle.std.specs.Prelude.{List, length, take, drop, Result, Ok, Err, zero, suc, ◌+◌, ◌*◌, ◌/◌, ◌≤◌, ◌*ℤ◌}
-use Rattle.std.specs.Int.{w32}
-use Rattle.std.specs.List.{position_or_len, before_first, after_first}
-use Rattle.font_types.specs.Bytes.{numeral}
-use Rattle.font_types.specs.Wrap.{wrap, FitsBits}
-use Rattle.font_types.specs.NumberReading.{ParsesFixedPoint}
+use Rattle.std.specs.Prelude.{◌≡◌, ◌≢◌, ◌⊎◌, ℕ, ◌-◌, ◌<◌, ℤ, pos, neg_ℤ, ◌+ℤ◌, ◌-ℤ◌, ◌≤ℤ◌, ◌<ℤ◌, ◌==◌, List, length}
+use Rattle.std.specs.Prelude.{take, drop, Result, Ok, Err, zero, suc, ◌+◌, ◌*◌, ◌/◌, ◌≤◌, ◌*ℤ◌}
+use Rattle.std.specs.{Int.w32, List.position_or_len, List.before_first, List.after_first}
 use Rattle.font_types.specs.Operations.{IsMulDiv, IsNarrowed, rounded_mul_div}
-use Rattle.font_types.specs.Fixed.{fixed_bits, fixed_of}
-use Rattle.font_types.specs.Fixed.{Fixed, ONE, NEG_ONE}
-use Rattle.font_types.specs.F2Dot14.{f2dot14_bits}
-use Rattle.font_types.specs.F2Dot14.{F2Dot14}
-use Rattle.font_types.specs.Tag.{IsChecked, IsAcceptable}
-use Rattle.variations.specs.Variations.{stored_bits}
-use Rattle.variations.specs.declared.evaluator.Setting.{Setting}
-use Rattle.variations.specs.declared.evaluator.SettingError.{SettingError}
+use Rattle.font_types.specs.Fixed.{fixed_bits, fixed_of, Fixed, ONE, NEG_ONE}
+use Rattle.font_types.specs.{Bytes.numeral, Wrap.wrap, Wrap.FitsBits, NumberReading.ParsesFixedPoint}
+use Rattle.font_types.specs.{F2Dot14.f2dot14_bits, F2Dot14.F2Dot14, Tag.IsChecked, Tag.IsAcceptable}
 use Rattle.variations.specs.declared.evaluator.SettingError.TheVariants.{NoValue, Axis, Value}
-use Rattle.variations.specs.declared.evaluator.AxisValueMap.{AxisValueMap}
+use Rattle.variations.specs.{Variations.stored_bits, declared.evaluator.Setting.Setting}
+use Rattle.variations.specs.{declared.evaluator.SettingError.SettingError, declared.evaluator.AxisValueMap.AxisValueMap}
 
 -- ---- settings (CSS, font-variation-settings: a tag and a number)
 

@@ -1,16 +1,11 @@
 -- Item variation stores (OpenType, font variations common table formats: "Item Variation Store").
-use Rattle.std.specs.Prelude.{◌≡◌, ◌≢◌, ◌⊎◌, ℕ, zero, suc, ◌+◌, ◌*◌, ◌-◌, ◌%◌, ◌/◌, ◌<◌, ◌≤◌, min}
-use Rattle.std.specs.Prelude.{ℤ, pos, ◌≤ℤ◌, ◌<ℤ◌, ◌-ℤ◌, ◌+ℤ◌, ◌*ℤ◌, unsigned_abs}
-use Rattle.std.specs.Prelude.{List, length, take, drop, slice_index_or, nat_le, nat_lt, nat_eq, if◌then◌else◌}
-use Rattle.std.specs.Prelude.{Bool, ◌&&◌, ◌||◌, int_lt, int_le}
+use Rattle.std.specs.Prelude.{◌≡◌, ◌≢◌, ◌⊎◌, ℕ, zero, suc, ◌+◌, ◌*◌, ◌-◌, ◌%◌, ◌/◌, ◌<◌, ◌≤◌, min, ℤ, pos, ◌≤ℤ◌, ◌<ℤ◌}
+use Rattle.std.specs.Prelude.{◌-ℤ◌, ◌+ℤ◌, ◌*ℤ◌, unsigned_abs, List, length, take, drop, slice_index_or, nat_le, nat_lt}
+use Rattle.std.specs.Prelude.{nat_eq, if◌then◌else◌, Bool, ◌&&◌, ◌||◌, int_lt, int_le}
 use Rattle.std.specs.Ordering.{int_eq}
-use Rattle.font_types.specs.Bytes.{numeral, signed_numeral}
-use Rattle.font_types.specs.Operations.{IsProduct, IsQuotient}
-use Rattle.font_types.specs.Fixed.{fixed_bits}
-use Rattle.font_types.specs.Fixed.{Fixed}
-use Rattle.font_types.specs.F2Dot14.{f2dot14_bits, f2dot14_of}
-use Rattle.font_types.specs.F2Dot14.{F2Dot14}
-use Rattle.font_types.specs.FWord.{nearest_unit}
+use Rattle.font_types.specs.F2Dot14.{f2dot14_bits, f2dot14_of, F2Dot14}
+use Rattle.font_types.specs.{Bytes.numeral, Bytes.signed_numeral, Operations.IsProduct, Operations.IsQuotient}
+use Rattle.font_types.specs.{Fixed.fixed_bits, Fixed.Fixed, FWord.nearest_unit}
 
 -- ---- the scalar of an axis ("Algorithm for interpolation of instance values"): coordinates are raw values of 2.14,
 -- and the scalar is one of 16.16

@@ -2,8 +2,7 @@
 
 ghost use Rattle.std.specs.Prelude.{◌≡◌, ◌↔◌, ◌⊎◌, ◌<◌, ◌≤◌, ◌+◌, ◌*◌, ◌/◌, ◌%◌, ◌^◌, pos, Some};
 ghost use Rattle.std.specs.Prelude.{IsSome, IfSome, MatchOption, length, take, drop};
-ghost use Rattle.font_types.specs.FWord.{ufword_number};
-ghost use Rattle.font_types.specs.GlyphId.{glyph16_number};
+ghost use Rattle.font_types.specs.{FWord.ufword_number, GlyphId.glyph16_number};
 ghost use Rattle.variations.specs.Advances.{HasTarget, target_of, HasGlyphSet, outer_index};
 ghost use Rattle.variations.specs.Advances.{inner_index, HasData, regions_of, subtable_of};
 ghost use Rattle.variations.specs.Variations.{IsNoVariation, HasNoVaried, HasSet, IsVaried};

@@ -1,18 +1,13 @@
 //! Delta sets of item variation data: their deltas, their sums, and advances that they move.
 
-ghost use Rattle.std.specs.Prelude.{◌≡◌, ◌↔◌, ◌⊎◌, ◌<◌, ◌≤◌, ◌+◌, ◌^◌};
-ghost use Rattle.std.specs.Prelude.{pos, ◌≤ℤ◌, unsigned_abs};
+ghost use Rattle.std.specs.Prelude.{◌≡◌, ◌↔◌, ◌⊎◌, ◌<◌, ◌≤◌, ◌+◌, ◌^◌, pos, ◌≤ℤ◌, unsigned_abs};
 ghost use Rattle.std.specs.Prelude.{IsSome, IfSome, MatchOption, length, take, drop};
 ghost use Rattle.font_types.specs.Bytes.{signed_numeral};
 ghost use Rattle.font_types.specs.Fixed;
-ghost use Rattle.font_types.specs.Fixed.{fixed_bits};
-ghost use Rattle.font_types.specs.F48Dot16.{f48dot16_bits};
-ghost use Rattle.font_types.specs.FWord.{ufword_number};
-ghost use Rattle.variations.specs.Variations.{narrow_width, delta_width, delta_place};
-ghost use Rattle.variations.specs.Variations.{HasDelta};
+ghost use Rattle.font_types.specs.{Fixed.fixed_bits, F48Dot16.f48dot16_bits, FWord.ufword_number};
+ghost use Rattle.variations.specs.Variations.{narrow_width, delta_width, delta_place, HasDelta};
 ghost use Rattle.variations.specs.Variations.{delta_of, HasTerm, IsTerm, IsSetSum, HasSet};
-ghost use Rattle.variations.specs.Variations.{IsVaried, HasNoVaried, IsNearSetSum};
-ghost use Rattle.variations.specs.Variations.{IsNearAdvance};
+ghost use Rattle.variations.specs.Variations.{IsVaried, HasNoVaried, IsNearSetSum, IsNearAdvance};
 
 use crate::regions::region_scalar;
 use font_types::{F2Dot14, F48Dot16, Fixed, Scalar, UfWord};

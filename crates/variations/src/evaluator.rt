@@ -1,22 +1,18 @@
 //! Coordinates of an instance: settings, `fvar` and `avar`.
 
-ghost use Rattle.std.specs.Prelude.{◌≡◌, ◌≢◌, ◌↔◌, pos, neg_ℤ, ◌≤ℤ◌, ◌<ℤ◌, ◌+ℤ◌, ◌-ℤ◌, ◌*ℤ◌};
-ghost use Rattle.std.specs.Prelude.{◌≤◌, ◌+◌, ◌*◌, IsTrue, IsSome, IfSome, MatchOption};
-ghost use Rattle.std.specs.Prelude.{length, take, drop};
+ghost use Rattle.std.specs.Prelude.{◌≡◌, ◌≢◌, ◌↔◌, pos, neg_ℤ, ◌≤ℤ◌, ◌<ℤ◌, ◌+ℤ◌, ◌-ℤ◌, ◌*ℤ◌, ◌≤◌};
+ghost use Rattle.std.specs.Prelude.{◌+◌, ◌*◌, IsTrue, IsSome, IfSome, MatchOption, length, take};
+ghost use Rattle.std.specs.Prelude.{drop};
 ghost use Rattle.font_types.specs.Bytes.{numeral, signed_numeral};
-ghost use Rattle.font_types.specs.Wrap.{FitsBits};
-ghost use Rattle.font_types.specs.Operations.{IsQuotient};
+ghost use Rattle.font_types.specs.{Wrap.FitsBits, Operations.IsQuotient};
 ghost use Rattle.font_types.specs.Fixed;
 ghost use Rattle.font_types.specs.Fixed.{fixed_bits};
 ghost use Rattle.font_types.specs.F2Dot14;
-ghost use Rattle.font_types.specs.F2Dot14.{f2dot14_bits};
-ghost use Rattle.font_types.specs.NameId.{name_number};
-ghost use Rattle.font_types.specs.Tag.{tag_bytes};
+ghost use Rattle.font_types.specs.{F2Dot14.f2dot14_bits, NameId.name_number, Tag.tag_bytes};
 ghost use Rattle.variations.specs.Evaluator.{value_start, AreParts, ParsesSetting, IsLerp};
 ghost use Rattle.variations.specs.Evaluator.{AreBelow, HasRange, mapping_at, mapping_count};
-ghost use Rattle.variations.specs.Evaluator.{HasSegmentMap, segment_map_bytes};
-ghost use Rattle.variations.specs.Evaluator.{IsSegmentEnd, IsMappedIn, IsMapped, IsFinal};
-ghost use Rattle.variations.specs.Evaluator.{IsStoredCoordinate};
+ghost use Rattle.variations.specs.Evaluator.{HasSegmentMap, segment_map_bytes, IsSegmentEnd};
+ghost use Rattle.variations.specs.Evaluator.{IsMappedIn, IsMapped, IsFinal, IsStoredCoordinate};
 
 use font_types::{DecimalFault, F2Dot14, Fixed, InvalidTag, NameId, Scalar, Tag};
 

@@ -1,7 +1,7 @@
 //! Maps from indices to delta sets.
 
-ghost use Rattle.std.specs.Prelude.{◌≡◌, ◌↔◌, ◌<◌, ◌≤◌, ◌+◌, ◌/◌, ◌%◌, ◌^◌};
-ghost use Rattle.std.specs.Prelude.{IsTrue, IsSome, IfSome, length, take, drop};
+ghost use Rattle.std.specs.Prelude.{◌≡◌, ◌↔◌, ◌<◌, ◌≤◌, ◌+◌, ◌/◌, ◌%◌, ◌^◌, IsTrue, IsSome, IfSome};
+ghost use Rattle.std.specs.Prelude.{length, take, drop};
 ghost use Rattle.font_types.specs.Bytes.{numeral};
 ghost use Rattle.variations.specs.Variations.{HasEntry, entry_of, IsNoVariation, inner_bits};
 

@@ -1,18 +1,14 @@
 //! Variation regions: the scalar of each axis, and of a region.
 
-ghost use Rattle.std.specs.Prelude.{◌≡◌, ◌≢◌, ◌↔◌, ◌≤◌, ◌+◌, ◌*◌};
-ghost use Rattle.std.specs.Prelude.{pos, ◌≤ℤ◌, ◌<ℤ◌, ◌-ℤ◌, ◌*ℤ◌};
+ghost use Rattle.std.specs.Prelude.{◌≡◌, ◌≢◌, ◌↔◌, ◌≤◌, ◌+◌, ◌*◌, pos, ◌≤ℤ◌, ◌<ℤ◌, ◌-ℤ◌, ◌*ℤ◌};
 ghost use Rattle.std.specs.Prelude.{IsTrue, IsSome, IfSome, length};
 ghost use Rattle.font_types.specs.Operations.{IsProduct, IsQuotient};
 ghost use Rattle.font_types.specs.Fixed;
-ghost use Rattle.font_types.specs.Fixed.{fixed_bits};
-ghost use Rattle.font_types.specs.F2Dot14.{f2dot14_bits};
+ghost use Rattle.font_types.specs.{Fixed.fixed_bits, F2Dot14.f2dot14_bits};
 ghost use Rattle.variations.specs.Variations.{IsIgnored, IsOffRegion, IsAxisScalar, HasRegion};
 ghost use Rattle.variations.specs.Variations.{axis_count, region_bytes, stored_bits};
-ghost use Rattle.variations.specs.Variations.{coordinate_bits};
-ghost use Rattle.variations.specs.Variations.{IsScalarAlong, IsScalarOf, IsNearScalar};
-ghost use Rattle.variations.specs.Variations.{IsRegionScalar};
-ghost use Rattle.variations.specs.Variations.{IsNearRegionScalar};
+ghost use Rattle.variations.specs.Variations.{coordinate_bits, IsScalarAlong, IsScalarOf};
+ghost use Rattle.variations.specs.Variations.{IsNearScalar, IsRegionScalar, IsNearRegionScalar};
 
 use crate::evaluator::ratio;
 use font_types::{F2Dot14, Fixed, Scalar};

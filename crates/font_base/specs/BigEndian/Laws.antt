@@ -1,15 +1,12 @@
 -- Fields are equal if and only if their bytes are, and their order agrees with that.
 use Rattle.std.proofs.Common.{◌≡◌, ℕ, List, Bool, nat_eq, IsTrue}
-use Rattle.std.specs.Bool.{Decides}
-use Rattle.std.specs.Cmp.Lexicographic.{pointwise, bytes_decides}
-use Rattle.std.specs.Ordering.{is_eq}
+use Rattle.std.specs.{Bool.Decides, Cmp.Lexicographic.pointwise, Cmp.Lexicographic.bytes_decides, Ordering.is_eq}
 use mathlib.Core.HLevel.{is_prop→PathP}
 use denote.Struct.Props.{props}
 use Rattle.font_base.specs.declared.raw.BeByteArray as BeByteArray
 use Rattle.font_base.specs.declared.raw.FixedSize as FixedSize
 use Rattle.font_base.specs.declared.raw.Scalar as Scalar
-use Rattle.font_base.specs.declared.big_endian.BigEndian.{BigEndian}
-use Rattle.font_base.specs.BigEndian.{raw_value}
+use Rattle.font_base.specs.{declared.big_endian.BigEndian.BigEndian, BigEndian.raw_value}
 use Rattle.std.specs.declared.cmp.Ordering.{Ordering}
 use Rattle.std.proofs.Common.{arith}
 

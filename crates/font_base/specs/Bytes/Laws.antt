@@ -1,19 +1,16 @@
 -- An integer and its bytes determine each other.
-use Rattle.std.proofs.Common.{◌≡◌, ◌∙◌, sym, ap, refl, ℕ, zero, suc, ◌+◌, ◌*◌, ◌/◌, ◌%◌, ◌^◌, ◌<◌, Bool, true, ℤ}
-use Rattle.std.proofs.Common.{pos, ◌+ℤ◌, ◌*ℤ◌, List, [], ◌∷◌, length, get_or, fold, arith, IsTrue, nat_lt, ◌==◌, lit<}
+use Rattle.std.proofs.Common.{◌≡◌, ◌∙◌, sym, ap, refl, ℕ, zero, suc, ◌+◌, ◌*◌, ◌/◌, ◌%◌, ◌^◌, ◌<◌, Bool, true, ℤ, pos}
+use Rattle.std.proofs.Common.{◌+ℤ◌, ◌*ℤ◌, List, [], ◌∷◌, length, get_or, fold, arith, IsTrue, nat_lt, ◌==◌, lit<}
 use Rattle.std.proofs.Common.{pow-add, div-add-mod', eq-eqb, eqb-true, lt-ltb, ltb-true}
 use Rattle.std.proofs.lemmas.Int.{ints}
 use Rattle.std.proofs.Math.Nat.{pow-suc, add-mul, mul_assoc, add_comm, mod-lt, mod-eq_of_lt, one-le-pow}
 use Rattle.std.proofs.Math.Nat.{add-mul-div_right, add-mul-mod_self_right}
-use Rattle.std.specs.Cmp.{first_so, second_so}
-use Rattle.std.specs.Cmp.Derive.{both_true}
-use Rattle.std.specs.List.{list_all}
 use Rattle.std.specs.Int.{bytes_high_first, byte_at}
+use Rattle.std.specs.{Cmp.first_so, Cmp.second_so, Cmp.Derive.both_true, List.list_all}
 use lib.Arith.{digits_lt, digits_div, mod-mul}
-use Rattle.font_base.specs.Integers.{sum-times}
-use Rattle.font_base.specs.Wrap.{FitsBits, fits_bits, wrap}
 use Rattle.font_base.specs.Wrap.Laws.{fits_bits-true, remainder, same_rest, wrap_is, wrap_same, wrap-fits}
 use Rattle.font_base.specs.Bytes.{numeral, are_bytes, IsBytesOf, bytes_of, signed_numeral}
+use Rattle.font_base.specs.{Integers.sum-times, Wrap.FitsBits, Wrap.fits_bits, Wrap.wrap}
 
 -- one step of `numeral`
 abbrev push_byte : ℕ → ℕ → ℕ

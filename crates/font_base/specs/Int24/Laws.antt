@@ -1,18 +1,13 @@
 -- An `Int24` and its three bytes determine each other.
-use Rattle.std.proofs.Common.{◌≡◌, ◌∙◌, ap, sym, true, ℕ, ℤ, pos, neg_ℤ, ◌≤ℤ◌, ◌<ℤ◌, List, IsTrue, lit<}
-use Rattle.std.specs.Bool.{Decides}
-use Rattle.std.specs.Ordering.{int_eq}
+use Rattle.std.proofs.Common.{◌≡◌, ◌∙◌, ap, sym, true, ℕ, ℤ, pos, neg_ℤ, ◌≤ℤ◌, ◌<ℤ◌, List, IsTrue, lit<, arith}
+use Rattle.std.specs.{Bool.Decides, Ordering.int_eq}
 use mathlib.Core.HLevel.{is_prop→PathP}
 use denote.Struct.Props.{props}
-use Rattle.font_base.specs.declared.int24.Int24.{Int24}
-use Rattle.font_base.specs.Wrap.{FitsBits}
-use Rattle.font_base.specs.Wrap.Laws.{wrap-fits}
 use Rattle.font_base.specs.Bytes.{are_bytes, bytes_of, signed_numeral}
 use Rattle.font_base.specs.Bytes.Laws.{are_bytes-bytes_of, signed_numeral-bytes_of, FitsBits-signed_numeral}
 use Rattle.font_base.specs.Bytes.Laws.{bytes_of-signed_numeral}
-use Rattle.font_base.specs.Scalar.{ScalarLaws}
 use Rattle.font_base.specs.Int24.{int24_number, int24_of, int24_of_bytes, bytes_of_int24}
-use Rattle.std.proofs.Common.{arith}
+use Rattle.font_base.specs.{declared.int24.Int24.Int24, Wrap.FitsBits, Wrap.Laws.wrap-fits, Scalar.ScalarLaws}
 
 -- equal values are the same `Int24`
 pub same_int24 : (m n : Int24) → int24_number m ≡ int24_number n → m ≡ n

@@ -1,14 +1,11 @@
 -- The laws of a scalar that is an integer or a newtype of one: for a type of `n` bytes, with the functions from a value
 -- to its integer and back.
-use Rattle.std.proofs.Common.{◌≡◌, refl, ℕ, ◌^◌, ◌*◌, ◌<◌, ℤ, pos, nat_eq, nat_lt}
-use Rattle.std.specs.Bool.{Decides}
-use Rattle.std.specs.Ordering.{int_eq}
-use Rattle.font_base.specs.Wrap.{fits_bits}
+use Rattle.std.proofs.Common.{◌≡◌, refl, ℕ, ◌^◌, ◌*◌, ◌<◌, ℤ, pos, nat_eq, nat_lt, arith}
+use Rattle.std.specs.{Bool.Decides, Ordering.int_eq}
 use Rattle.font_base.specs.Bytes.{numeral, are_bytes, bytes_of, signed_numeral}
 use Rattle.font_base.specs.Bytes.Laws.{are_bytes-bytes_of, bytes_of-numeral, bytes_of-signed_numeral, unsigned_value}
 use Rattle.font_base.specs.Bytes.Laws.{unsigned_back, signed_value, signed_back}
-use Rattle.font_base.specs.Scalar.{ScalarLaws}
-use Rattle.std.proofs.Common.{arith}
+use Rattle.font_base.specs.{Wrap.fits_bits, Scalar.ScalarLaws}
 
 -- a newtype of an unsigned integer
 pub unsigned_newtype : {T : Type 0} (n : ℕ) (number_of : T → ℕ) (of_number : ℕ → T)

@@ -1,15 +1,12 @@
 -- A `Uint24` and its three bytes determine each other.
-use Rattle.std.proofs.Common.{◌≡◌, ◌∙◌, ap, sym, true, ℕ, ◌^◌, ◌<◌, List, IsTrue, nat_eq, pos}
+use Rattle.std.proofs.Common.{◌≡◌, ◌∙◌, ap, sym, true, ℕ, ◌^◌, ◌<◌, List, IsTrue, nat_eq, pos, arith}
 use Rattle.std.proofs.Math.Nat.{mod-eq_of_lt}
 use Rattle.std.specs.Bool.{Decides}
 use mathlib.Core.HLevel.{is_prop→PathP}
 use denote.Struct.Props.{props}
-use Rattle.font_base.specs.declared.uint24.Uint24.{Uint24}
-use Rattle.font_base.specs.Bytes.{are_bytes, bytes_of}
 use Rattle.font_base.specs.Bytes.Laws.{are_bytes-bytes_of, numeral-bytes_of, numeral_below, bytes_of-numeral}
-use Rattle.font_base.specs.Scalar.{ScalarLaws}
 use Rattle.font_base.specs.Uint24.{uint24_number, uint24_of, uint24_of_bytes, bytes_of_uint24}
-use Rattle.std.proofs.Common.{arith}
+use Rattle.font_base.specs.{declared.uint24.Uint24.Uint24, Bytes.are_bytes, Bytes.bytes_of, Scalar.ScalarLaws}
 
 -- equal values are the same `Uint24`
 pub same_uint24 : (m n : Uint24) → uint24_number m ≡ uint24_number n → m ≡ n

@@ -1,8 +1,7 @@
 -- Wrapping is unique, and commutes with sums, negation and wrapping to fewer bits.
 use Rattle.std.proofs.Common.{◌≡◌, ◌∙◌, sym, ap, refl, ℕ, zero, suc, ◌+◌, ◌-◌, ◌*◌, ◌/◌, ◌%◌, ◌^◌, ◌<◌, ◌≤◌, ℤ, pos}
 use Rattle.std.proofs.Common.{negsuc, ◌+ℤ◌, ◌*ℤ◌, ◌≤ℤ◌, ◌<ℤ◌, IsTrue, arith, pow_pos, pow-add, div-add-mod'}
-use Rattle.std.proofs.lemmas.Int.{by_lt_z}
-use Rattle.std.proofs.Math.Nat.{mul-le-mul_right, add-mul, mod-lt}
+use Rattle.std.proofs.{lemmas.Int.by_lt_z, Math.Nat.mul-le-mul_right, Math.Nat.add-mul, Math.Nat.mod-lt}
 use Rattle.std.specs.Int.{int_rem_euclid}
 use borrow.Author.Differences.{ints, up, down}
 use Rattle.font_base.specs.Integers.{sum-times, product-times}

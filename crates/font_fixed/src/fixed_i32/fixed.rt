@@ -1,8 +1,8 @@
 //! 16.16 fixed-point numbers.
 #![tactic(auto, using(crate::proofs::Rules::number_code))]
 
-ghost use Rattle.std.specs.Prelude.{◌≡◌, ◌≢◌, ◌^◌, ◌↔◌, ℤ, pos, ◌+ℤ◌, ◌*ℤ◌, refl};
-ghost use Rattle.std.specs.Prelude.{◌≤◌, Some, IsSome, IfSome, unsigned_abs};
+ghost use Rattle.std.specs.Prelude.{◌≡◌, ◌≢◌, ◌^◌, ◌↔◌, ℤ, pos, ◌+ℤ◌, ◌*ℤ◌, refl, ◌≤◌, Some};
+ghost use Rattle.std.specs.Prelude.{IsSome, IfSome, unsigned_abs};
 ghost use Rattle.std.proofs.Common.{lit<, lit≤};
 ghost use Rattle.font_base.specs.Wrap.{FitsBits, fits_bits, wrap};
 ghost use Rattle.font_base.specs.Bytes.{bytes_of, signed_numeral};

@@ -4,8 +4,8 @@ ghost use Rattle.std.specs.Prelude.{pos, unsigned_abs, ◌≢◌, ◌≤◌, ◌
 ghost use Rattle.font_base.specs.Wrap.{wrap, FitsBits};
 ghost use Rattle.font_fixed.specs.Fixed.{fixed_bits};
 ghost use Rattle.font_fixed.specs.Operations.{IsMulDiv, rounded_mul_div};
-ghost use Rattle.font_fixed.specs.NumberLaws.{OnFour, ProductLaws, ProductInOneStep};
-ghost use Rattle.font_fixed.specs.NumberLaws.{QuotientLaws, QuotientInOneStep};
+ghost use Rattle.font_fixed.specs.NumberLaws.{OnFour, ProductLaws, ProductInOneStep, QuotientLaws};
+ghost use Rattle.font_fixed.specs.NumberLaws.{QuotientInOneStep};
 
 use crate::Fixed;
 

@@ -1,11 +1,8 @@
 -- The laws of a partial order that is given by a test `le`: what an element type of a box has to prove.
 use Rattle.std.proofs.Common.{◌≡◌, ℕ, nat_le, arith, Bool, true, false, ◌&&◌, Option, Some, None}
-use Rattle.std.specs.Bool.{Decides}
 use Rattle.std.specs.Cmp.{IsPartialEquivalence, IsPartialOrder}
-use Rattle.std.specs.Option.{option_map}
-use Rattle.std.specs.Ordering.{ordering_reverse}
-use Rattle.std.specs.declared.cmp.Ordering.{Ordering}
 use Rattle.std.specs.declared.cmp.Ordering.TheVariants.{Less, Equal, Greater}
+use Rattle.std.specs.{Bool.Decides, Option.option_map, Ordering.ordering_reverse, declared.cmp.Ordering.Ordering}
 
 -- the order of two values, from the tests both ways
 abbrev pub answer_of : Bool → Bool → Option Ordering

@@ -1,8 +1,7 @@
 //! An impl of a caller: `RingElement` for `u32` modulo `2^32`.
 
 ghost use Rattle.std.specs.Prelude.{◌≡◌, ◌+◌, ◌*◌, ◌%◌, ◌^◌, ◌<◌, refl};
-ghost use Rattle.std.proofs.Common.{lit<};
-ghost use Rattle.std.proofs.Math.Nat.{mod-lt};
+ghost use Rattle.std.proofs.{Common.lit<, Math.Nat.mod-lt};
 ghost use Rattle.font_geom.specs.Ring.Laws.{same_made, modular_ring};
 
 use crate::laws::{action, associative, identity_neutral, step_and_halves};

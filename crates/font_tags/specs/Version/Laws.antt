@@ -1,13 +1,8 @@
 -- A version and its four bytes determine each other, and `==` is identity.
-use Rattle.std.proofs.Common.{◌≡◌, refl, ◌^◌, ◌&&◌, nat_eq, nat_lt}
-use Rattle.std.proofs.Common.{arith}
+use Rattle.std.proofs.Common.{◌≡◌, refl, ◌^◌, ◌&&◌, nat_eq, nat_lt, arith}
 use Rattle.std.specs.Bool.{Decides}
-use Rattle.font_base.specs.Bytes.{are_bytes}
-use Rattle.font_base.specs.Scalar.{ScalarLaws}
-use Rattle.font_base.specs.Scalar.Laws.{unsigned_laws}
-use Rattle.font_base.specs.Records.{record_laws}
-use Rattle.font_tags.specs.declared.version.MajorMinor.{MajorMinor}
-use Rattle.font_tags.specs.Version.{major_minor_bytes, major_minor_of}
+use Rattle.font_base.specs.{Bytes.are_bytes, Scalar.ScalarLaws, Scalar.Laws.unsigned_laws, Records.record_laws}
+use Rattle.font_tags.specs.{declared.version.MajorMinor.MajorMinor, Version.major_minor_bytes, Version.major_minor_of}
 
 pub major_minor_laws : ScalarLaws (λ version. nat_lt version.major (2 ^ 16) && nat_lt version.minor (2 ^ 16))
     (are_bytes 4) major_minor_of major_minor_bytes 4 4

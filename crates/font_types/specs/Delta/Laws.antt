@@ -1,8 +1,7 @@
 -- Laws of sums: a joined list has the sum of both, and the order of the terms does not matter.
 use Rattle.std.proofs.Common.{◌≡◌, ◌∙◌, ℕ, ◌+◌, List, [], ◌∷◌, ◌++◌, fold, sum_by, ℤ, pos, ◌+ℤ◌, ◌-ℤ◌, arith}
-use Rattle.std.proofs.lemmas.Int.{ints}
-use Rattle.std.proofs.lemmas.List.Sorted.{sum_by-IsPermutation}
 use Rattle.std.proofs.lemmas.List.Sums.{fold-append, sum_by-cons}
+use Rattle.std.proofs.{lemmas.Int.ints, lemmas.List.Sorted.sum_by-IsPermutation}
 use Rattle.std.specs.List.Sorted.{IsPermutation}
 use borrow.Author.Differences.{up, down}
 use Rattle.font_types.specs.Delta.{total}

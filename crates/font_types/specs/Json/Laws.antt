@@ -1,11 +1,9 @@
 -- JSON forms convert back.
-use Rattle.std.proofs.Common.{◌≡◌, ap, ℕ, ◌-◌, ◌^◌, ◌≤◌, ℤ, pos, List, length}
-use Rattle.std.proofs.Common.{nat_lt, IsUtf8, IsTrue, Result, Ok, Err, ◌&&◌, arith, append-nil}
+use Rattle.std.proofs.Common.{◌≡◌, ap, ℕ, ◌-◌, ◌^◌, ◌≤◌, ℤ, pos, List, length, nat_lt, IsUtf8, IsTrue, Result, Ok, Err}
+use Rattle.std.proofs.Common.{◌&&◌, arith, append-nil}
 use Rattle.std.specs.Result.{result_map_both}
-use Rattle.serde_json.specs.Data.{Data, string}
-use Rattle.serde_json.specs.Find.{as_str}
-use Rattle.font_base.specs.Wrap.{fits_bits}
-use Rattle.font_base.specs.Wrap.Laws.{fits_bits-true}
+use Rattle.serde_json.specs.{Data.Data, Data.string, Find.as_str}
+use Rattle.font_base.specs.{Wrap.fits_bits, Wrap.Laws.fits_bits-true, Bytes.are_bytes}
 use Rattle.font_decimal.specs.Shortest.{shortest_text}
 use Rattle.font_decimal.proofs.Readings.{rounds_unique, not_outside}
 use Rattle.font_fixed.specs.Operations.{ReadsBits, least, greatest}
@@ -14,13 +12,8 @@ use Rattle.font_types.specs.declared.json.JsonFault.{JsonFault}
 use Rattle.font_types.specs.declared.json.JsonFault.TheVariants.{Memory, WrongKind, OutOfRange, Syntax, NotUtf8}
 use Rattle.font_types.specs.declared.json.JsonFault.TheVariants.{InvalidTag, MissingMember}
 use Rattle.font_types.specs.Json.{JsonForm, IsTagRefused, IsNumber, is_within, ConvertsInteger, ConvertsDecimalText}
-use Rattle.font_types.specs.Json.{ConvertsDecimal, ConvertsTagString, TagComesBack}
-use Rattle.font_types.specs.Json.{version_form}
-use Rattle.font_types.specs.Json.{ConvertsVersion}
-use Rattle.font_base.specs.Bytes.{are_bytes}
-use Rattle.font_tags.specs.declared.tag.Tag.{Tag}
-use Rattle.font_tags.specs.declared.version.MajorMinor.{MajorMinor}
-use Rattle.font_tags.specs.Tag.{tag_bytes, filled}
+use Rattle.font_types.specs.Json.{ConvertsDecimal, ConvertsTagString, TagComesBack, version_form, ConvertsVersion}
+use Rattle.font_tags.specs.{declared.tag.Tag.Tag, declared.version.MajorMinor.MajorMinor, Tag.tag_bytes, Tag.filled}
 
 -- a printed value parses back
 text_reads_back : (w f : ℕ) (text : List ℕ) (b : ℤ) (result : Result ℤ JsonFault) → ReadsBits w f text b

@@ -2,10 +2,8 @@
 
 ghost use Rattle.std.specs.Prelude.{Ok};
 ghost use Rattle.std.proofs.Common.{ap};
-ghost use Rattle.font_base.specs.Uint24.{uint24_number};
-ghost use Rattle.font_base.specs.Uint24.Laws.{same_uint24};
-ghost use Rattle.font_base.specs.Int24.{int24_number};
-ghost use Rattle.font_base.specs.Int24.Laws.{same_int24};
+ghost use Rattle.font_base.specs.{Uint24.uint24_number, Uint24.Laws.same_uint24};
+ghost use Rattle.font_base.specs.{Int24.int24_number, Int24.Laws.same_int24};
 ghost use Rattle.font_tags.specs.LongDateTime.{date_seconds, date_of};
 ghost use Rattle.font_tags.specs.Version.{version_bits, version_of};
 ghost use Rattle.font_ids.specs.FWord.{fword_number, fword_of, ufword_number, ufword_of};

@@ -1,8 +1,7 @@
 //! Tags as strings of their four bytes.
 
 ghost use Rattle.std.specs.Prelude.{◌≡◌, IsUtf8};
-ghost use Rattle.serde_json.specs.Data.{string};
-ghost use Rattle.serde_json.specs.Find.{as_str};
+ghost use Rattle.serde_json.specs.{Data.string, Find.as_str};
 ghost use Rattle.font_base.specs.Bytes.{are_bytes};
 ghost use Rattle.font_tags.specs.Tag.{tag_bytes};
 ghost use Rattle.font_types.specs.Json.{IsTagRefused, ConvertsTagString, TagComesBack};

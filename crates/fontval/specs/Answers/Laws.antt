@@ -1,9 +1,8 @@
 -- Lines are answered one by one.
 use Rattle.std.proofs.Common.{◌≡◌, refl, ℕ, ◌<◌, List, [], ◌∷◌, ◌++◌, length, append_assoc, arith}
-use Rattle.std.specs.List.{onto_first}
 use Rattle.std.proofs.lemmas.Grind.{common_steps}
-use Rattle.fontval.specs.Text.{lines_of}
-use Rattle.fontval.specs.Answers.{AnswersLines, Answers}
+use Rattle.std.specs.List.{onto_first}
+use Rattle.fontval.specs.{Text.lines_of, Answers.AnswersLines, Answers.Answers}
 
 -- ---- the lines of an input that is cut after a line feed
 

@@ -1,7 +1,6 @@
 use Rattle.std.proofs.Common.{◌≡◌, ◌+◌, ◌%◌, ◌^◌}
 use Rattle.std.specs.List.{sum_by}
-use Rattle.font_types.specs.Array.{array_elements, elements_left}
-use Rattle.font_types.specs.Bytes.{numeral}
+use Rattle.font_types.specs.{Array.array_elements, Array.elements_left, Bytes.numeral}
 use Rattle.callers.proofs.linter.checksum.Given as goal
 
 abbrev pub invariant-loop-word : goal.invariant-loop-word

@@ -1,8 +1,6 @@
 use Rattle.std.proofs.Common.{◌≡◌}
-use Rattle.std.specs.List.{AllAdjacentBelow}
-use Rattle.std.specs.declared.cmp.Ordering.TheVariants.{Less}
-use Rattle.std.specs.Ordering.{nat_cmp}
 use Rattle.std.specs.Cmp.Lexicographic.{slice_cmp}
+use Rattle.std.specs.{List.AllAdjacentBelow, declared.cmp.Ordering.TheVariants.Less, Ordering.nat_cmp}
 use Rattle.font_types.specs.Tag.{tag_bytes}
 use Rattle.callers.proofs.linter.is_ascending.Given as goal
 

@@ -1,7 +1,5 @@
 use Rattle.std.proofs.Common.{◌≡◌, length}
-use Rattle.font_types.specs.Delta.{total_below}
-use Rattle.font_types.specs.F48Dot16.{f48dot16_bits}
-use Rattle.font_types.specs.Wrap.{wrap}
+use Rattle.font_types.specs.{Delta.total_below, F48Dot16.f48dot16_bits, Wrap.wrap}
 use Rattle.callers.specs.Packed.{term_value}
 use Rattle.callers.proofs.packed.scaled_sum.Given as goal
 

@@ -1,7 +1,5 @@
 use Rattle.std.proofs.Common.{◌≡◌, ◌≤◌, ℕ, take}
-use Rattle.font_types.specs.Delta.{total}
-use Rattle.font_types.specs.Fixed.{fixed_bits}
-use Rattle.font_types.specs.Wrap.{FitsBits}
+use Rattle.font_types.specs.{Delta.total, Fixed.fixed_bits, Wrap.FitsBits}
 use Rattle.callers.proofs.scaler.checked_width.Given as goal
 
 abbrev pub invariant-loop-advance : goal.invariant-loop-advance

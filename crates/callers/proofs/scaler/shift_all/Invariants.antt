@@ -1,6 +1,5 @@
 use Rattle.std.proofs.Common.{◌≡◌, ◌<◌, ◌≤◌, ℕ, ◌+ℤ◌, length, get_or}
-use Rattle.font_types.specs.Fixed.{Fixed, fixed_bits}
-use Rattle.font_types.specs.Wrap.{wrap}
+use Rattle.font_types.specs.{Fixed.Fixed, Fixed.fixed_bits, Wrap.wrap}
 use Rattle.callers.proofs.scaler.shift_all.Given as goal
 
 abbrev pub invariant-loop-coordinate : goal.invariant-loop-coordinate

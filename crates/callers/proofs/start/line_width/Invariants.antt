@@ -1,7 +1,5 @@
 use Rattle.std.proofs.Common.{◌≡◌, take}
-use Rattle.font_types.specs.Delta.{total}
-use Rattle.font_types.specs.Fixed.{fixed_bits}
-use Rattle.font_types.specs.Wrap.{wrap}
+use Rattle.font_types.specs.{Delta.total, Fixed.fixed_bits, Wrap.wrap}
 use Rattle.callers.proofs.start.line_width.Given as goal
 
 abbrev pub invariant-loop-advance : goal.invariant-loop-advance

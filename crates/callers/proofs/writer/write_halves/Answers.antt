@@ -1,6 +1,5 @@
 use Rattle.std.proofs.Common.{◌≡◌, ◌+◌, ◌*◌, ◌++◌, ◌/◌, ◌∙◌, sym, rules, arith, take, drop, pos, get_or}
-use Rattle.std.proofs.Math.Seq.{take-suc}
-use Rattle.std.proofs.lemmas.Grind.{common_steps, flat_map-append}
+use Rattle.std.proofs.{Math.Seq.take-suc, lemmas.Grind.common_steps, lemmas.Grind.flat_map-append}
 use Rattle.font_types.specs.Bytes.{bytes_of}
 use Rattle.font_types.proofs.Callers.{writes, written_on}
 use Rattle.callers.specs.Writer.{halves}

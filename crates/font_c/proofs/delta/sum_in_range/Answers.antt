@@ -1,7 +1,5 @@
 use Rattle.std.proofs.Common.{rules, arith, subst, ◌≡◌, ◌↔◌, ◌∙◌, IsSome, IfSome}
-use Rattle.font_types.specs.DeltaSum.{steps_of}
-use Rattle.font_types.specs.F48Dot16.{f48dot16_bits}
-use Rattle.font_types.specs.Wrap.{FitsBits}
+use Rattle.font_types.specs.{DeltaSum.steps_of, F48Dot16.f48dot16_bits, Wrap.FitsBits}
 use Rattle.font_c.specs.Sums.{sum_of_products}
 use Rattle.font_c.proofs.Sums.{sum_of_all, sum_grows}
 use Rattle.font_c.proofs.delta.sum_in_range.Goals as goal

@@ -1,6 +1,5 @@
 use Rattle.std.proofs.Common.{rules, ◌<◌, length}
-use Rattle.font_types.specs.Padding.{unsigned_body}
-use Rattle.font_types.specs.Shortest.{shortest_text}
+use Rattle.font_types.specs.{Padding.unsigned_body, Shortest.shortest_text}
 use Rattle.font_c.proofs.Texts.{printed_is_short}
 use Rattle.font_c.proofs.format.fty_format_padded.Goals as goal
 

@@ -1,6 +1,5 @@
 use Rattle.std.proofs.Common.{◌≡◌, ◌-◌, ◌≤◌, length, take}
-use Rattle.std.specs.Char.{is_ascii_digit}
-use Rattle.std.specs.List.{list_all}
+use Rattle.std.specs.{Char.is_ascii_digit, List.list_all}
 use Rattle.font_decimal.proofs.grammar.are_digits.Given as goal
 
 abbrev pub invariant-loop-place : goal.invariant-loop-place

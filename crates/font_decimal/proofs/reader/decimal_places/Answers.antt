@@ -1,9 +1,6 @@
 use Rattle.std.proofs.Common.{◌≡◌, ◌-◌, ◌^◌, arith, get_or, length, refl, take, take_all}
-use Rattle.std.proofs.Math.Nat.{pow-le-pow_right}
-use Rattle.std.proofs.lemmas.Int.Digits.{digits_more}
-use Rattle.std.proofs.lemmas.Str.Parse.{digit_at}
-use Rattle.font_decimal.proofs.Digits.{one_digit_more, few_digits, padded_below}
-use Rattle.font_decimal.proofs.Powers.{tens_at}
+use Rattle.std.proofs.{Math.Nat.pow-le-pow_right, lemmas.Int.Digits.digits_more, lemmas.Str.Parse.digit_at}
+use Rattle.font_decimal.proofs.{Digits.one_digit_more, Digits.few_digits, Digits.padded_below, Powers.tens_at}
 use Rattle.font_decimal.specs.declared.reader.TheConstants.{TENS}
 use Rattle.font_decimal.proofs.reader.decimal_places.Goals as goal
 

@@ -1,7 +1,6 @@
 use Rattle.std.proofs.Common.{◌≡◌, ◌+◌, ◌-◌, ◌/◌, ◌^◌, arith, sym, ◌∙◌, true≢false, min, length}
 use Rattle.font_decimal.specs.Reading.{HasUnits}
-use Rattle.font_decimal.proofs.Digits.{digits_parts, by_test}
-use Rattle.font_decimal.proofs.Powers.{kept_units, padded_units}
+use Rattle.font_decimal.proofs.{Digits.digits_parts, Digits.by_test, Powers.kept_units, Powers.padded_units}
 use Rattle.font_decimal.proofs.reader.half_units.Goals as goal
 use Rattle.font_decimal.proofs.reader.half_units.Goals.{then-fraction-most, else-fraction-most}
 

@@ -1,13 +1,8 @@
 use Rattle.std.proofs.Common.{◌≡◌, ◌+◌, ◌-◌, ◌^◌, ◌≤◌, min, take, arith, sym, ◌∙◌}
+use Rattle.std.proofs.{Math.Nat.pow-le-pow_right, lemmas.List.take_rest, lemmas.Nat.one_shl}
 use Rattle.std.specs.Str.Parse.{digits_value}
-use Rattle.std.proofs.Math.Nat.{pow-le-pow_right}
-use Rattle.std.proofs.lemmas.List.{take_rest}
-use Rattle.std.proofs.lemmas.Nat.{one_shl}
-use Rattle.font_decimal.proofs.Texts.{same_point}
-use Rattle.font_decimal.proofs.Parts.{fraction_found, parts_found}
-use Rattle.font_decimal.proofs.Rounding.{units_fit, UnitsFit, units_capped}
-use Rattle.font_decimal.proofs.Powers.{units_below}
-use Rattle.font_decimal.proofs.Readings.{rounds_by}
+use Rattle.font_decimal.proofs.{Texts.same_point, Parts.fraction_found, Parts.parts_found, Rounding.units_fit}
+use Rattle.font_decimal.proofs.{Rounding.UnitsFit, Rounding.units_capped, Powers.units_below, Readings.rounds_by}
 use Rattle.font_decimal.proofs.reader.nearest_raw.Goals as goal
 
 pub whole_digits-whole-requires : goal.whole_digits-whole-requires

@@ -1,7 +1,6 @@
 use Rattle.std.proofs.Common.{ℤ, Ok, Err, Result, w64, FitsSigned, to_z-of_z}
-use Rattle.font_decimal.specs.Reading.{Parses}
-use Rattle.font_decimal.specs.declared.reader.DecimalFault.{DecimalFault}
 use Rattle.font_decimal.specs.declared.reader.DecimalFault.TheVariants.{Syntax, OutOfRange}
+use Rattle.font_decimal.specs.{Reading.Parses, declared.reader.DecimalFault.DecimalFault}
 use Rattle.font_decimal.proofs.Readings.{answers_as}
 use Rattle.font_decimal.proofs.reader.read_decimal.Goals as goal
 

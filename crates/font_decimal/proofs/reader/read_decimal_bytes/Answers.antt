@@ -1,8 +1,7 @@
 use Rattle.std.proofs.Common.{◌≡◌, ℕ, ◌<◌, ◌^◌, ◌⊎◌, arith, to_z-of_z, w64, SFits}
 use Rattle.std.proofs.lemmas.Int.{ints}
 use Rattle.font_decimal.specs.Reading.{Reads}
-use Rattle.font_decimal.proofs.Parts.{no_decimal}
-use Rattle.font_decimal.proofs.Readings.{judged_by_range}
+use Rattle.font_decimal.proofs.{Parts.no_decimal, Readings.judged_by_range}
 use Rattle.font_decimal.proofs.reader.read_decimal_bytes.Goals as goal
 
 pub returns-in_default : goal.returns-in_default

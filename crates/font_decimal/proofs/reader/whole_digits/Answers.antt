@@ -1,5 +1,4 @@
-use Rattle.std.proofs.Common.{arith}
-use Rattle.std.proofs.lemmas.Int.Digits.{digits_more}
+use Rattle.std.proofs.{Common.arith, lemmas.Int.Digits.digits_more}
 use Rattle.font_decimal.proofs.Digits.{one_digit_more}
 use Rattle.font_decimal.proofs.reader.whole_digits.Goals as goal
 use Rattle.font_decimal.proofs.reader.whole_digits.Goals.{then-more-too_large, else-more-too_large}

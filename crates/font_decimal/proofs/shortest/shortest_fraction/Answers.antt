@@ -1,7 +1,6 @@
 use Rattle.std.proofs.Common.{◌≡◌, ◌+◌, ◌*◌, ◌/◌, ◌%◌, ◌^◌, ◌<◌, ◌≤◌, false, arith, sym, ◌∙◌, add-one, below_more, refl}
 use Rattle.std.proofs.Common.{pow-suc, append-nil, append_assoc, take}
-use Rattle.std.proofs.lemmas.List.{length-set}
-use Rattle.std.proofs.lemmas.Nat.{one_shl}
+use Rattle.std.proofs.{lemmas.List.length-set, lemmas.Nat.one_shl}
 use Rattle.font_decimal.specs.Shortest.{reads_back}
 use Rattle.font_decimal.proofs.Buffer.{unit_is, nine_places, put_behind, digit_more, digit_raised}
 use Rattle.font_decimal.proofs.Fewest.{place_left, places_are}

@@ -1,5 +1,4 @@
-use Rattle.std.proofs.Common.{arith}
-use Rattle.std.proofs.lemmas.Int.{to_z-of_z}
+use Rattle.std.proofs.{Common.arith, lemmas.Int.to_z-of_z}
 use Rattle.font_fixed.proofs.Quotients.{wrapped_is_mul_div}
 use Rattle.font_fixed.proofs.products.mul_div.Goals as goal
 

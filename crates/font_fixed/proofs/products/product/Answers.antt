@@ -1,5 +1,4 @@
-use Rattle.std.proofs.Common.{arith, pow_pos}
-use Rattle.std.proofs.lemmas.Int.{to_z-of_z}
+use Rattle.std.proofs.{Common.arith, Common.pow_pos, lemmas.Int.to_z-of_z}
 use Rattle.font_fixed.proofs.Steps.{near_is_wrapped_near}
 use Rattle.font_fixed.proofs.products.product.Goals as goal
 

@@ -1,7 +1,6 @@
 use Rattle.std.proofs.Common.{rules, refl, ◌≡◌, w16}
-use Rattle.font_fixed.proofs.Rounds.{nearest_is, no_nearest}
+use Rattle.font_fixed.proofs.{Rounds.nearest_is, Rounds.no_nearest, rounding.round_bits_16.Goals.After-floor_bits_16}
 use Rattle.font_fixed.specs.Rounding.{rounded}
-use Rattle.font_fixed.proofs.rounding.round_bits_16.Goals.{After-floor_bits_16}
 use Rattle.font_fixed.proofs.rounding.round_bits_16.Goals as goal
 
 value : (c : After-floor_bits_16) → c.floor_bits_16.result ≡ rounded c.args.f c.args.bits

@@ -1,6 +1,5 @@
 use Rattle.std.proofs.Common.{◌≡◌, ◌≤◌, ◌*◌, ◌^◌, take, unsigned_abs}
-use Rattle.font_types.specs.Delta.{exact_sum}
-use Rattle.font_types.specs.DeltaSum.{steps_of}
+use Rattle.font_types.specs.{Delta.exact_sum, DeltaSum.steps_of}
 use Rattle.font_types.proofs.delta.checked_delta_sum.Given as goal
 
 abbrev pub invariant-loop-term : goal.invariant-loop-term

@@ -1,6 +1,4 @@
-use Rattle.std.proofs.Common.{◌^◌, ◌∙◌, arith}
-use Rattle.std.proofs.lemmas.Int.Digits.{digits_more}
-use Rattle.std.proofs.lemmas.Str.Parse.{digit_at}
+use Rattle.std.proofs.{Common.◌^◌, Common.◌∙◌, Common.arith, lemmas.Int.Digits.digits_more, lemmas.Str.Parse.digit_at}
 use Rattle.fontval.proofs.WordByWord.{bounded_digit_more}
 use Rattle.fontval.proofs.numbers.magnitude_of_digits.Goals as goal
 

@@ -1,6 +1,5 @@
 use Rattle.std.proofs.Common.{rules, ◌≡◌, ℕ, ◌+◌, ◌<◌, ◌+ℤ◌, ◌*ℤ◌}
-use Rattle.font_types.specs.Fixed.{fixed_bits}
-use Rattle.font_types.specs.F48Dot16.{f48dot16_bits}
+use Rattle.font_types.specs.{Fixed.fixed_bits, F48Dot16.f48dot16_bits}
 use Rattle.font_types.proofs.Callers.{calls}
 use Rattle.variations.specs.Variations.{HasTerm}
 use Rattle.variations.proofs.Stores.{one_more_term, term_fits, term_small, sum_rules, set_sum_is_near}

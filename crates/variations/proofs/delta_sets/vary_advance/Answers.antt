@@ -1,7 +1,5 @@
-use Rattle.std.proofs.Common.{rules, pos}
-use Rattle.std.proofs.lemmas.Option.{IfSome_then}
-use Rattle.font_types.specs.F48Dot16.{f48dot16_bits}
-use Rattle.font_types.specs.FWord.{ufword_number}
+use Rattle.std.proofs.{Common.rules, Common.pos, lemmas.Option.IfSome_then}
+use Rattle.font_types.specs.{F48Dot16.f48dot16_bits, FWord.ufword_number}
 use Rattle.variations.proofs.Stores.{advance_is_near}
 use Rattle.variations.proofs.delta_sets.vary_advance.Goals as goal
 

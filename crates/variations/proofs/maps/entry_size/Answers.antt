@@ -1,5 +1,4 @@
-use Rattle.std.proofs.Common.{◌∙◌, ap, ◌+◌, ◌/◌}
-use Rattle.std.proofs.lemmas.Nat.{and_shr, and_mask}
+use Rattle.std.proofs.{Common.◌∙◌, Common.ap, Common.◌+◌, Common.◌/◌, lemmas.Nat.and_shr, lemmas.Nat.and_mask}
 use Rattle.variations.proofs.maps.entry_size.Goals as goal
 
 pub returns : goal.returns

@@ -1,6 +1,5 @@
 -- A quotient of widened differences is one of the differences.
-use Rattle.std.proofs.Common.{rules, arith, ◌-ℤ◌}
-use Rattle.std.proofs.lemmas.Int.{ints}
+use Rattle.std.proofs.{Common.rules, Common.arith, Common.◌-ℤ◌, lemmas.Int.ints}
 use Rattle.font_types.specs.F2Dot14.{f2dot14_bits}
 use Rattle.font_types.proofs.Callers.{calls, quotient_of_widened}
 use Rattle.variations.proofs.regions.scalar_off_peak.Goals as goal

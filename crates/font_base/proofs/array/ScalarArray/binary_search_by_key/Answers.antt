@@ -1,5 +1,4 @@
-use Rattle.std.proofs.Common.{rules}
-use Rattle.std.proofs.lemmas.Fn.{always_returns_same}
+use Rattle.std.proofs.{Common.rules, lemmas.Fn.always_returns_same}
 use Rattle.font_base.proofs.Searched.{searched, found_within, absent_within}
 use Rattle.font_base.proofs.array.ScalarArray.binary_search_by_key.Goals as goal
 

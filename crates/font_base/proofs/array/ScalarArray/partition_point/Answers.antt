@@ -1,5 +1,4 @@
-use Rattle.std.proofs.Common.{rules}
-use Rattle.std.proofs.lemmas.Fn.{always_returns_same}
+use Rattle.std.proofs.{Common.rules, lemmas.Fn.always_returns_same}
 use Rattle.font_base.proofs.Searched.{parted}
 use Rattle.font_base.proofs.array.ScalarArray.partition_point.Goals as goal
 

@@ -1,9 +1,6 @@
 use Rattle.std.proofs.Common.{arith, w64, FitsSigned, to_z-of_z, unsigned_abs, ◌≡◌, ◌<◌, ◌+◌}
-use Rattle.font_decimal.proofs.Buffer.{IsText, text_made}
-use Rattle.font_decimal.proofs.Printed.{shortest_is}
-use Rattle.font_decimal.specs.Shortest.{IsShortest, shortest_text}
-use Rattle.font_decimal.specs.Shown.{shown}
-use Rattle.font_decimal.proofs.Texts.{decimal_is_ascii}
+use Rattle.font_decimal.proofs.{Buffer.IsText, Buffer.text_made, Printed.shortest_is, Texts.decimal_is_ascii}
+use Rattle.font_decimal.specs.{Shortest.IsShortest, Shortest.shortest_text, Shown.shown}
 use Rattle.font_decimal.proofs.shortest.Shortest.new.Goals as goal
 use Rattle.font_decimal.proofs.shortest.Shortest.new.Goals.{then-places-gt0, else-places-gt0}
 

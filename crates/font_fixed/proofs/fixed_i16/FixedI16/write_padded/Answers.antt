@@ -1,6 +1,5 @@
 use Rattle.std.proofs.Common.{arith, rules}
-use Rattle.font_fixed.proofs.Rules.{cell_16}
-use Rattle.font_fixed.proofs.Texts.{has_room}
+use Rattle.font_fixed.proofs.{Rules.cell_16, Texts.has_room}
 use Rattle.font_fixed.proofs.fixed_i16.FixedI16.write_padded.Goals as goal
 
 pub returns-clause-cell : goal.returns-clause-cell

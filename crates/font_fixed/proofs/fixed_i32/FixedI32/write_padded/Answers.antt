@@ -1,6 +1,5 @@
 use Rattle.std.proofs.Common.{arith, rules}
-use Rattle.font_fixed.proofs.Rules.{cell_32}
-use Rattle.font_fixed.proofs.Texts.{has_room}
+use Rattle.font_fixed.proofs.{Rules.cell_32, Texts.has_room}
 use Rattle.font_fixed.proofs.fixed_i32.FixedI32.write_padded.Goals as goal
 
 pub returns-clause-cell : goal.returns-clause-cell

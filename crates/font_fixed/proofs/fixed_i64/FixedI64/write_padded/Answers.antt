@@ -1,6 +1,5 @@
 use Rattle.std.proofs.Common.{arith, rules}
-use Rattle.font_fixed.proofs.Rules.{cell_64}
-use Rattle.font_fixed.proofs.Texts.{has_room}
+use Rattle.font_fixed.proofs.{Rules.cell_64, Texts.has_room}
 use Rattle.font_fixed.proofs.fixed_i64.FixedI64.write_padded.Goals as goal
 
 pub returns-clause-cell : goal.returns-clause-cell

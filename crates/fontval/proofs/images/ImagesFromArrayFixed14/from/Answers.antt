@@ -1,7 +1,6 @@
 use Rattle.std.proofs.Common.{rules, ◌≡◌, ◌∙◌, List, [], ◌∷◌, ◌++◌, take, drop, length, arith, sym, ap, refl}
 use Rattle.std.proofs.Common.{slice_index_or, pos, take-append-drop}
-use Rattle.font_types.specs.Matrix.{elements_of}
-use Rattle.font_types.specs.Fixed.{fixed_of}
+use Rattle.font_types.specs.{Matrix.elements_of, Fixed.fixed_of}
 use Rattle.fontval.proofs.images.ImagesFromArrayFixed14.from.Goals as goal
 
 -- a list of two is its first and its second

@@ -1,8 +1,6 @@
-use Rattle.std.proofs.Common.{arith, Ok}
-use Rattle.std.proofs.lemmas.Grind.{common_steps}
+use Rattle.std.proofs.{Common.arith, Common.Ok, lemmas.Grind.common_steps}
 use Rattle.serde_json.specs.View.{view}
-use Rattle.font_base.specs.Int24.{int24_number}
-use Rattle.font_base.specs.Int24.Laws.{same_int24}
+use Rattle.font_base.specs.{Int24.int24_number, Int24.Laws.same_int24}
 use Rattle.font_types.specs.Json.Laws.{signed_form}
 use Rattle.font_types.proofs.json.number.Int24JsonScalar.from_json.Goals as goal
 

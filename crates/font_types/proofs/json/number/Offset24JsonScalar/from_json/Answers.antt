@@ -1,5 +1,4 @@
-use Rattle.std.proofs.Common.{ap, arith, Ok}
-use Rattle.std.proofs.lemmas.Grind.{common_steps}
+use Rattle.std.proofs.{Common.ap, Common.arith, Common.Ok, lemmas.Grind.common_steps}
 use Rattle.serde_json.specs.View.{view}
 use Rattle.font_base.specs.Uint24.Laws.{same_uint24}
 use Rattle.font_ids.specs.Offset.{offset24_number, offset24_of}

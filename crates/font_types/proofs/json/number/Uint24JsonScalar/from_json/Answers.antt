@@ -1,8 +1,6 @@
-use Rattle.std.proofs.Common.{arith, Ok}
-use Rattle.std.proofs.lemmas.Grind.{common_steps}
+use Rattle.std.proofs.{Common.arith, Common.Ok, lemmas.Grind.common_steps}
 use Rattle.serde_json.specs.View.{view}
-use Rattle.font_base.specs.Uint24.{uint24_number}
-use Rattle.font_base.specs.Uint24.Laws.{same_uint24}
+use Rattle.font_base.specs.{Uint24.uint24_number, Uint24.Laws.same_uint24}
 use Rattle.font_types.specs.Json.Laws.{unsigned_form}
 use Rattle.font_types.proofs.json.number.Uint24JsonScalar.from_json.Goals as goal
 
