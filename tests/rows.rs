@@ -1,30 +1,20 @@
 //! The tests of the crates, which the eraser writes, over the Rust that it writes.
 #![allow(clippy::clone_on_copy)]
 
+// A test names the crate that it is of.
+extern crate font_types_proved as font_base;
+extern crate font_types_proved as font_decimal;
+extern crate font_types_proved as font_fixed;
+extern crate font_types_proved as font_geom;
+extern crate font_types_proved as font_ids;
+extern crate font_types_proved as font_tags;
+extern crate font_types_proved as font_types;
+
 #[macro_use]
 mod rattle;
 
-macro_rules! crates {
-    ($($name:ident $folder:literal)*) => {$(
-        #[path = $folder]
-        mod $name {
-            pub use font_types_proved::*;
-
-            #[path = "mod.rs"]
-            mod tests;
-        }
-    )*};
-}
-
-crates! {
-    font_decimal "generated/font_decimal"
-    font_base "generated/font_base"
-    font_fixed "generated/font_fixed"
-    font_tags "generated/font_tags"
-    font_ids "generated/font_ids"
-    font_geom "generated/font_geom"
-    font_types "generated/font_types"
-}
+#[path = "generated/rows/mod.rs"]
+mod rows;
 
 #[path = "generated/variations"]
 mod variations {

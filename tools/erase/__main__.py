@@ -13,16 +13,10 @@ from eraser import Crate, Eraser, Refused
 
 ROOT = pathlib.Path(__file__).resolve().parents[2]
 
-# The modules of the library's crates that are left out.
-LEFT_OUT = {"font_base": ["facts"], "font_types": ["json"]}
-
-# The crates whose tests cargo runs too, and the modules of each that are left out: calls of what
-# the package does not export, and JSON and memory, which only Rattle has. For the same reasons
-# `fontval` and `font_c` are not here, and of `callers` there is no Rust.
-TESTS = dict.fromkeys([*eraser.LIBRARY, "variations"], ()) | {
-    "font_fixed": ["raw"],
-    "font_types": ["errors", "fixed", "memory", "numbers", "tags"],
-}
+# The modules of the library's crates that are left out, and those of its tests: calls of what the
+# package does not export, and JSON and memory, which only Rattle has. For the same reasons cargo
+# runs no tests of `fontval` and `font_c`, and of `callers` there is no Rust.
+LEFT_OUT = {"font_base": ["facts"], "font_types": ["json"], "rows": ["json", "raw"]}
 
 # The definitions that contracts name, in pages of rustdoc.
 PAGES = "src/generated/definitions.rs"
@@ -37,8 +31,8 @@ CRATES = [
     (Crate("font_c", "exports", ()), "lib", "c/src/generated/font_c"),
     (Crate("variations", "variations", ()), "lib", "variations/src/generated"),
     *(
-        (Crate(name, "tests", out), "tests", f"tests/generated/{name}")
-        for name, out in TESTS.items()
+        (Crate(name, "tests", LEFT_OUT.get(name, ())), "tests", f"tests/generated/{name}")
+        for name in ("rows", "variations")
     ),
 ]
 

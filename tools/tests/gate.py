@@ -9,11 +9,11 @@ import tempfile
 import unittest
 
 ROOT = pathlib.Path(__file__).resolve().parents[2]
-MEMORY = "crates/font_types/src/tests/memory.rt"
+MEMORY = "crates/rows/src/tests/json/memory.rt"
 STORED = "crates/fontval/memory/stdin crates/fontval/memory/stdout"
 BUILT = (
     "c/check tools/verdicts tools/mutants tests/workspaces compare/fontations/copy "
-    "crates/font_types/out/font_types_tests crates/fontval/out/fontval"
+    "crates/rows/out/rows_tests crates/fontval/out/fontval"
 )
 TOOLS, TOOLS_FOR_C = (
     found.split() for found in re.findall(r"\ntools\w*=\((.*)\)", (ROOT / ".ci/run").read_text())
@@ -35,9 +35,9 @@ echo "$call" >>"$LOG"
 case $call in
 "check ") [ "$FAIL" != freetype ] || echo "left out: FreeType" ;;
 "python3 tools/mir --proved --mutants") [ "$FAIL" != rustc ] || echo "left out: MIR" ;;
-"font_types_tests --list")
-    sed -n '/^#\[test\]/{n; s/^fn \(.*\)(.*/tests::memory::\1: test/p}' MEMORY ;;
-"font_types_tests "*)
+"rows_tests --list")
+    sed -n '/^#\[test\]/{n; s/^fn \(.*\)(.*/tests::json::memory::\1: test/p}' MEMORY ;;
+"rows_tests "*)
     [ "$REFUSE" != 1 ] || echo refused >&2
     [ "$FAIL" != "test $REFUSE" ] ;;
 "fontval ")
@@ -91,7 +91,7 @@ class Gate(unittest.TestCase):
         self.assertEqual(self.run_gate(), "nothing")
         calls = (self.folder / "log").read_text().splitlines()
         self.assertFalse((self.folder / "crates/font_types/out/rlib/old").exists())
-        steps = {call for call in calls if not call.startswith("font")}
+        steps = {call for call in calls if not call.startswith(("font", "rows"))}
         # A step that is lost or added changes this number.
         self.assertEqual(len(steps), 25)
         for fail in [*steps, *FAULTS, *LEFT_OUT]:

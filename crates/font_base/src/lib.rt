@@ -21,6 +21,3 @@ pub use int24::Int24;
 pub use raw::{BeByteArray, ByteChunks, FixedSize, IdentityEq, Scalar};
 pub use table_data::{SampleHeader, TableDataRef, TableHeader};
 pub use uint24::{TryFromUint24Error, Uint24};
-
-#[cfg(test)]
-mod tests;

@@ -14,8 +14,6 @@ pub mod laws;
 mod padding;
 mod reader;
 mod shortest;
-#[cfg(test)]
-mod tests;
 
 pub use padding::{Align, Pad, write_padded};
 pub use reader::{DecimalFault, read_decimal, read_decimal_bytes};

@@ -29,6 +29,3 @@ pub use rounding::{
     fitting_16, floor_bits_16, floor_bits_32, floor_bits_64, round_bits_16, round_bits_32,
     round_bits_64,
 };
-
-#[cfg(test)]
-mod tests;

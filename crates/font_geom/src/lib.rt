@@ -16,6 +16,3 @@ pub use bbox::BoundingBox;
 pub use matrix::{Matrix, MatrixElement};
 pub use point::Point;
 pub use ring::RingElement;
-
-#[cfg(test)]
-mod tests;

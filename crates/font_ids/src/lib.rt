@@ -18,6 +18,3 @@ pub use fword::{FWord, UfWord};
 pub use glyph_id::{GlyphId, GlyphId16, GlyphId24, TryFromGlyphIdError};
 pub use name_id::{NameId, Predefined};
 pub use offset::{Nullable, Offset16, Offset24, Offset32, OffsetValue};
-
-#[cfg(test)]
-mod tests;

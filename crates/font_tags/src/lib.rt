@@ -13,6 +13,3 @@ mod version;
 pub use longdatetime::LongDateTime;
 pub use tag::{InvalidTag, TTC_HEADER_TAG, Tag};
 pub use version::{Compatible, MajorMinor, Version16Dot16};
-
-#[cfg(test)]
-mod tests;

@@ -44,6 +44,3 @@ pub const TRUE_SFNT_VERSION: u32 = 0x7472_7565;
 
 /// The `sfnt` version of a font with CFF outlines, the bytes `OTTO`.
 pub const CFF_SFNT_VERSION: u32 = 0x4F54_544F;
-
-#[cfg(test)]
-mod tests;

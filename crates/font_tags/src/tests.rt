@@ -1,6 +1,0 @@
-//! Values of OpenType and font-types, traits and texts.
-
-mod compatible;
-mod tags;
-mod traits;
-mod versions;

@@ -1,0 +1,51 @@
+//! What no clause says: printing ignores flags. Also, each value of 16 bits parses back from its
+//! text.
+
+use font_decimal::DecimalFault;
+use font_fixed::*;
+use std::alloc::{AllocError, Global};
+use std::fmt::{Debug, Display};
+use std::str::FromStr;
+use std::test::Fail;
+
+/// Returns whether `number` prints as `text`, whatever the flags, and `text` parses back.
+fn prints<T>(alloc: Global, number: T, text: &str) -> Result<bool, AllocError>
+where
+    T: Copy + PartialEq + Display + Debug + FromStr<Err = DecimalFault>,
+{
+    let forms = format!(in alloc; "{number}|{number:8}|{number:.0}|{number:+}|{number:?}")?;
+    Ok(forms.as_str().split('|').all(|form| form == text) && text.parse() == Ok(number))
+}
+
+#[test]
+fn texts_with_flags(rt: HostRuntime) -> Result<(), Fail> {
+    let alloc = rt.alloc();
+    assert!(rt; prints(alloc, F2Dot14::from_bits(-10139), "-0.61884")?);
+    assert!(rt; prints(alloc, Fixed::from_bits(0x1_8000), "1.5")?);
+    assert!(rt; prints(alloc, F48Dot16::from_bits(39322), "0.6")?);
+    Ok(())
+}
+
+/// Returns the raw value of the first number that does not parse back from its text.
+fn not_parsed_back<const F: u32>(alloc: Global) -> Result<Option<i16>, AllocError>
+where
+    FixedI16<F>: Format<16, F>,
+{
+    for bits in i16::MIN..=i16::MAX {
+        let number = FixedI16::<F>::from_bits(bits);
+        let text = format!(in alloc; "{number}")?;
+        if text.as_str().parse() != Ok(number) {
+            return Ok(Some(bits));
+        }
+    }
+    Ok(None)
+}
+
+#[test]
+fn every_value_of_16_bits(rt: HostRuntime) -> Result<(), Fail> {
+    let alloc = rt.alloc();
+    assert!(rt; not_parsed_back::<14>(alloc)?.is_none(), "2.14");
+    assert!(rt; not_parsed_back::<12>(alloc)?.is_none(), "4.12");
+    assert!(rt; not_parsed_back::<10>(alloc)?.is_none(), "6.10");
+    Ok(())
+}

@@ -1,0 +1,26 @@
+//! Whether three zero bytes are a null offset, and what no clause says: texts of `Debug`.
+
+use font_base::{FixedSize, Scalar, Uint24};
+use font_ids::{Nullable, Offset16, Offset24, Offset32};
+use std::test::Fail;
+
+#[test]
+fn nullable(rt: HostRuntime) -> Result<(), Fail> {
+    let null = Nullable::<Offset24>::read(&[0, 0, 0]).ok_or("three bytes")?;
+    assert!(rt; null.is_null() && null == Nullable::default());
+    assert!(rt; Nullable::<Offset32>::read(&[0, 0, 0]).is_none());
+    assert!(rt; Nullable::<Offset32>::default().is_null());
+    assert!(rt; !Nullable::<Offset32>::from_raw([0, 1, 0, 0]).is_null());
+    assert!(rt; Nullable::<Offset24>::RAW_BYTE_LEN == 3);
+    Ok(())
+}
+
+#[test]
+fn offset_texts(rt: HostRuntime) -> Result<(), Fail> {
+    let (short, middle) = (Offset16::new(5), Offset24::new(Uint24::new(5)));
+    let null = Nullable::<Offset16>::default();
+    let text = format!(in rt.alloc(); "{short:?} {middle:?} {:?} {null:?}", Offset32::new(5))?;
+    let printed = "Offset16(5) Offset24(Uint24(5)) Offset32(5) Nullable(Offset16(0))";
+    assert!(rt; text.as_str() == printed);
+    Ok(())
+}

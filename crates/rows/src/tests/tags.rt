@@ -1,0 +1,6 @@
+//! Values of OpenType and font-types, traits and texts.
+
+mod compatible;
+mod tag;
+mod traits;
+mod versions;

@@ -1,7 +1,0 @@
-// @generated from crates/font_base/src/tests.rt by tools/erase
-
-//! Values of OpenType and font-types, impls of callers, traits and texts.
-
-mod fields;
-mod numbers;
-mod traits;

@@ -1,9 +1,0 @@
-// @generated from crates/font_geom/src/tests.rt by tools/erase
-
-//! Impls of callers, rows of requirements.md, traits and texts. `tests/definitions.rs`
-//! has the order of operands.
-
-mod boxes;
-mod ring;
-mod rows;
-mod traits;
