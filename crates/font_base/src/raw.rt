@@ -8,9 +8,8 @@ ghost use Rattle.std.specs.Cmp.{signed_Decides, unsigned_Decides};
 ghost use Rattle.std.specs.{Bool.Decides, Cmp.Lexicographic.pointwise};
 ghost use Rattle.std.proofs.Common.{rules, lit<};
 ghost use Rattle.font_base.specs.Bytes.{are_bytes, numeral, bytes_of, signed_numeral};
-ghost use Rattle.font_base.specs.Scalar.{ScalarLaws, IsValueOf};
-ghost use Rattle.font_base.specs.Scalar.Laws.{unsigned_laws, signed_laws};
-ghost use Rattle.font_base.specs.{Wrap.fits_bits, Elements.AreRaw};
+ghost use Rattle.font_base.specs.{Scalar.ScalarLaws, Scalar.IsValueOf, Scalar.Laws.unsigned_laws};
+ghost use Rattle.font_base.specs.{Scalar.Laws.signed_laws, Wrap.fits_bits, Elements.AreRaw};
 
 use crate::facts::each_is_byte;
 

@@ -6,9 +6,8 @@ use Rattle.std.proofs.lemmas.Str.{IsAscii-append, chars-IsAscii, encodes-IsAscii
 use Rattle.std.proofs.lemmas.Str.Ascii.{IsAscii-cons, IsAscii-nil}
 use Rattle.std.proofs.{lemmas.Bool.Decides.nat_tests, lemmas.Str.Parse.digit_from_value}
 use Rattle.std.specs.{Str.trim_start, Str.skip_leading_whitespace, Char.is_whitespace, Char.digit_value}
-use Rattle.font_decimal.specs.Padding.{padded_text, shown_sign, unsigned_body}
-use Rattle.font_decimal.specs.declared.padding.Pad.{Pad}
 use Rattle.font_decimal.specs.{Grammar.HasParts, Shortest.shortest_text, declared.padding.Align.TheVariants.Right}
+use Rattle.font_decimal.specs.{Padding.padded_text, Padding.shown_sign, Padding.unsigned_body, declared.padding.Pad.Pad}
 use Rattle.font_decimal.proofs.{Texts.decimal_is_ascii, Printed.shortest_is}
 
 -- spaces are white space, and digits and signs are not

@@ -1,9 +1,8 @@
 -- Lemmas of this crate and those below for its callers: the ruleset `calls`, which a crate names once at its head, and
 -- lemmas for answers.
 use Rattle.font_base.proofs.ScalarCalls.{scalar_calls}
-use Rattle.font_fixed.proofs.Calls.{calls_16, calls_32, calls_64}
-use Rattle.font_fixed.proofs.Shifts.{shr_low, shr_high, shr_fits}
-use Rattle.font_fixed.proofs.{FixedCalls.fixed_calls, Integral.integral_calls, Integral.integral_rules}
+use Rattle.font_fixed.proofs.{Calls.calls_16, Calls.calls_32, Calls.calls_64, Shifts.shr_low, Shifts.shr_high}
+use Rattle.font_fixed.proofs.{Shifts.shr_fits, FixedCalls.fixed_calls, Integral.integral_calls, Integral.integral_rules}
 use Rattle.font_fixed.proofs.{NarrowCalls.narrow_calls, NarrowCalls.quarter_neg_one, Orders.order_calls}
 use Rattle.font_tags.proofs.{TagLaws.tag_calls, VersionLaws.compatible_calls}
 use Rattle.font_geom.proofs.Bounds.{bound_calls}

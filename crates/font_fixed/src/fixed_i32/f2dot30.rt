@@ -7,10 +7,8 @@ ghost use Rattle.font_base.specs.Wrap.{FitsBits, fits_bits, wrap};
 ghost use Rattle.font_base.specs.Bytes.{bytes_of, signed_numeral};
 ghost use Rattle.font_base.specs.Scalar.Laws.{signed_newtype, signed_identity};
 ghost use Rattle.font_decimal.specs.Near.{up};
-ghost use Rattle.font_fixed.specs.Operations.{IsNarrowed};
-ghost use Rattle.font_fixed.specs.F2Dot14.{f2dot14_bits};
-ghost use Rattle.font_fixed.specs.Fixed.{fixed_bits};
 ghost use Rattle.font_fixed.specs.F2Dot30.{f2dot30_bits as bits_of, f2dot30_of as of_bits};
+ghost use Rattle.font_fixed.specs.{Operations.IsNarrowed, F2Dot14.f2dot14_bits, Fixed.fixed_bits};
 
 use super::FixedI32;
 use crate::formats::Format;

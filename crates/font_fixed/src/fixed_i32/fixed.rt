@@ -11,9 +11,8 @@ ghost use Rattle.font_decimal.specs.Near.{near, up};
 ghost use Rattle.font_fixed.specs.Operations.{IsNarrowed, IsProduct, IsQuotient, IsMulDiv};
 ghost use Rattle.font_fixed.specs.Operations.{rounded_mul_div};
 ghost use Rattle.font_fixed.specs.Fixed.{fixed_bits as bits_of, fixed_of as of_bits};
-ghost use Rattle.font_fixed.specs.F2Dot14.{f2dot14_bits};
-ghost use Rattle.font_fixed.specs.F26Dot6.{f26dot6_bits};
 ghost use Rattle.font_fixed.specs.F48Dot16.{f48dot16_bits};
+ghost use Rattle.font_fixed.specs.{F2Dot14.f2dot14_bits, F26Dot6.f26dot6_bits};
 
 use super::FixedI32;
 use crate::formats::Format;

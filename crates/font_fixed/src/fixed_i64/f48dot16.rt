@@ -5,9 +5,8 @@ ghost use Rattle.std.proofs.Common.{lit≤};
 ghost use Rattle.std.specs.Prelude.{◌≡◌, ◌^◌, ◌↔◌, ℤ, pos, ◌*ℤ◌, IsSome, IfSome};
 ghost use Rattle.font_base.specs.Wrap.{FitsBits, wrap};
 ghost use Rattle.font_decimal.specs.Near.{up};
-ghost use Rattle.font_fixed.specs.Operations.{IsNarrowed};
-ghost use Rattle.font_fixed.specs.F48Dot16.{f48dot16_bits as bits_of};
 ghost use Rattle.font_fixed.specs.Fixed.{fixed_bits};
+ghost use Rattle.font_fixed.specs.{Operations.IsNarrowed, F48Dot16.f48dot16_bits as bits_of};
 
 use super::FixedI64;
 use crate::formats::Format;

@@ -1,7 +1,6 @@
 use Rattle.std.proofs.Common.{◌≡◌, take}
 use Rattle.std.specs.List.{flat_map}
-use Rattle.font_types.specs.Fixed.{fixed_text}
-use Rattle.font_types.specs.Padding.{padded_text}
+use Rattle.font_types.specs.{Fixed.fixed_text, Padding.padded_text}
 use Rattle.callers.specs.Dumper.{column}
 use Rattle.callers.proofs.dumper.row.Given as goal
 
