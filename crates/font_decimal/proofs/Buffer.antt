@@ -1,4 +1,7 @@
 -- Bytes of a text in a buffer.
+use Rattle.font_decimal.specs.declared.shortest.TheConstants.{POINT, LEN}
+use Rattle.font_decimal.specs.Grammar.{fraction_text}
+use Rattle.font_decimal.specs.Shortest.{last_digits, nearest_numeral, fewest_places, shortest_text}
 use Rattle.std.proofs.Common.{◌≡◌, ℕ, ◌+◌, ◌/◌, ◌%◌, ◌^◌, ◌<◌, ◌≤◌, List, [], ◌∷◌, ◌++◌, length, arith, length-append}
 use Rattle.std.proofs.Common.{◌∙◌, length-drop, take_all, append_assoc, decimal, take, get_or, set, add-one, suc, zero}
 use Rattle.std.proofs.Common.{drop, sym, ap, replicate, refl, min, ◌*◌, ◌-◌, ◌≢◌, pow_pos, append-nil, ℤ, unsigned_abs}
@@ -9,8 +12,6 @@ use Rattle.std.proofs.lemmas.List.{drop-set, take-set, take_more, length-set, ge
 use Rattle.std.proofs.lemmas.List.{drop-take, take_at}
 use Rattle.std.proofs.{Math.Nat.pow-le-pow_right, lemmas.Nat.one_shl, Math.Seq.take-append-add, lemmas.Bool.cases_lt}
 use Rattle.std.specs.{Int.is_negative, Fmt.sign_text}
-use Rattle.font_decimal.specs.Grammar.{fraction_text}
-use Rattle.font_decimal.specs.Shortest.{last_digits, nearest_numeral, fewest_places, shortest_text}
 use Rattle.font_decimal.proofs.Fewest.{IsFewest, zero_drops, fewest_is}
 use Rattle.font_decimal.proofs.Printed.{last_is, shown_whole, digits_fit, few_places}
 use Rattle.font_decimal.proofs.Remainder.{HasRest, rounded_up, rounded_down, whole_kept, fails_here, stopped}
@@ -45,18 +46,19 @@ digit_more p q d small =
 
 -- the last digit of the bytes, raised
 pub record IsRaised (p : ℕ) (bytes front : List ℕ) (numeral : ℕ) : Type 0 where
-  pub fits : get_or bytes (20 + p) 0 < 57
-  pub text : take (21 + p) (set bytes (20 + p) (get_or bytes (20 + p) 0 + 1)) ≡ front ++ last_digits p numeral
+  pub fits : get_or bytes (POINT + p) 0 < 57
+  pub text : take (POINT + 1 + p) (set bytes (POINT + p) (get_or bytes (POINT + p) 0 + 1))
+    ≡ front ++ last_digits p numeral
 
 pub digit_raised : {m f q rest : ℕ} (p : ℕ) (bytes front : List ℕ) → IsFewest m f p → HasRest m f p q rest
-    → 2 ^ f ≤ rest → min rest (2 * 2 ^ f - rest) < 10 ^ p → 21 + p ≤ length bytes
-    → take (21 + p) bytes ≡ front ++ last_digits p q
+    → 2 ^ f ≤ rest → min rest (2 * 2 ^ f - rest) < 10 ^ p → POINT + 1 + p ≤ length bytes
+    → take (POINT + 1 + p) bytes ≡ front ++ last_digits p q
     → IsRaised p bytes front (q + 1)
 digit_raised {f = f} zero bytes front fewest h high close long is = absurd (omega (arith, h.below, pow_pos f))
 digit_raised {q = q} (suc k) bytes front fewest h high close long is =
-    let n = 21 + k in
-    let at : 20 + suc k ≡ n = omega arith in
-    let end : 21 + suc k ≡ n + 1 = omega arith in
+    let n = POINT + 1 + k in
+    let at : POINT + suc k ≡ n = omega arith in
+    let end : POINT + 1 + suc k ≡ n + 1 = omega arith in
     let pushed : take n bytes ++ (get_or bytes n 0 ∷ []) ≡ (front ++ last_digits k (q / 10)) ++ ((48 + q % 10) ∷ []) =
     sym (take_more bytes n 0 (omega arith)) ∙ rw end at is ∙ rw (last_is k q, append_assoc) in
     let ends = same_from_push _ _ _ _ pushed in
@@ -73,23 +75,24 @@ digit_raised {q = q} (suc k) bytes front fewest h high close long is =
     }
 
 -- the point and the digits after it
-pub fraction_shown : (p n : ℕ) (bytes : List ℕ) → take (21 + p) bytes ≡ take 21 (replicate 31 46) ++ last_digits p n
-    → take (p + 1) (drop 20 bytes) ≡ 46 ∷ last_digits p n
+pub fraction_shown : (p n : ℕ) (bytes : List ℕ)
+    → take (POINT + 1 + p) bytes ≡ take (POINT + 1) (replicate LEN 46) ++ last_digits p n
+    → take (p + 1) (drop POINT bytes) ≡ 46 ∷ last_digits p n
 fraction_shown p n bytes is =
-    let end : 20 + (p + 1) ≡ 21 + p = omega arith in
-    sym (drop-take 20 (p + 1) bytes) ∙ rw end (ap (drop 20) is)
+    let end : POINT + (p + 1) ≡ POINT + 1 + p = omega arith in
+    sym (drop-take POINT (p + 1) bytes) ∙ rw end (ap (drop POINT) is)
 
 -- a text of bytes, its point and its digits
-joined : (p n start end : ℕ) (front bytes fraction : List ℕ) → (0 < p → end ≡ 21 + p) → (p ≡ 0 → end ≡ 20)
-    → start + length front ≡ 20 → drop start bytes ≡ front ++ drop 20 fraction
-    → take (21 + p) fraction ≡ take 21 (replicate 31 46) ++ last_digits p n
+joined : (p n start end : ℕ) (front bytes fraction : List ℕ) → (0 < p → end ≡ POINT + 1 + p) → (p ≡ 0 → end ≡ POINT)
+    → start + length front ≡ POINT → drop start bytes ≡ front ++ drop POINT fraction
+    → take (POINT + 1 + p) fraction ≡ take (POINT + 1) (replicate LEN 46) ++ last_digits p n
     → take (end - start) (drop start bytes) ≡ front ++ fraction_text (last_digits p n)
 joined zero n start end front bytes fraction some none place is after =
     let long : end - start ≡ length front = omega (arith, none refl) in
-    rw (is, append-nil) (take_at front (drop 20 fraction) (end - start) (sym long))
+    rw (is, append-nil) (take_at front (drop POINT fraction) (end - start) (sym long))
 joined (suc k) n start end front bytes fraction some none place is after =
     let long : end - start ≡ length front + (suc k + 1) = omega (arith, some (omega arith)) in
-    rw (is, long, ← fraction_shown (suc k) n fraction after) (take-append-add front (drop 20 fraction) (suc k + 1))
+    rw (is, long, ← fraction_shown (suc k) n fraction after) (take-append-add front (drop POINT fraction) (suc k + 1))
 
 -- the integer has at most 19 digits
 pub whole_short : (m f : ℕ) → m ≤ 2 ^ 63 → length (decimal (m / 2 ^ f)) ≤ 19
@@ -104,14 +107,14 @@ ten_places m f most = few_places m f 10
 
 -- the bytes from start to end are the shortest text
 pub record IsText (b : ℤ) (f start end : ℕ) (bytes : List ℕ) : Type 0 where
-  pub within : (start ≤ end) × (end ≤ 31) × (end ≤ start + 22)
+  pub within : (start ≤ end) × (end ≤ LEN) × (end ≤ start + 22)
   pub text : take (end - start) (drop start bytes) ≡ shortest_text b f
 
 pub text_made : {m f p end middle start : ℕ} {bytes : List ℕ} (b : ℤ) (first second : List ℕ) → f ≤ 30
     → m ≡ unsigned_abs b → m ≤ 2 ^ 63 → p ≡ fewest_places m f
-    → take (21 + p) first ≡ take 21 (replicate 31 46) ++ last_digits p (nearest_numeral m f p)
-    → (0 < p → end ≡ 21 + p) → (p ≡ 0 → end ≡ 20) → middle + length (decimal (m / 2 ^ f)) ≡ 20
-    → drop middle second ≡ decimal (m / 2 ^ f) ++ drop 20 first → start + length (sign_text (is_negative b)) ≡ middle
+    → take (POINT + 1 + p) first ≡ take (POINT + 1) (replicate LEN 46) ++ last_digits p (nearest_numeral m f p)
+    → (0 < p → end ≡ POINT + 1 + p) → (p ≡ 0 → end ≡ POINT) → middle + length (decimal (m / 2 ^ f)) ≡ POINT
+    → drop middle second ≡ decimal (m / 2 ^ f) ++ drop POINT first → start + length (sign_text (is_negative b)) ≡ middle
     → drop start bytes ≡ sign_text (is_negative b) ++ drop middle second → IsText b f start end bytes
 unfolding shortest_text
 text_made {m = m} {f = f} {p = p} {end = end} {start = start} {bytes = bytes} b first second most size small
@@ -122,7 +125,7 @@ text_made {m = m} {f = f} {p = p} {end = end} {start = start} {bytes = bytes} b 
     let both = length-append minus whole_text in
     let room = rw (← kept, ← places) at (digits_fit m f small most) in
     let one : length minus ≤ 1 = grind (arith, nat_tests) in
-    let close : (20 ≤ end) × (end ≤ 21 + p) = elim (cases_lt 0 p) [
+    let close : (POINT ≤ end) × (end ≤ POINT + 1 + p) = elim (cases_lt 0 p) [
       | inl more ↦ omega (arith, some more)
       | inr fewer ↦ omega (arith, none (omega arith))
     ] in

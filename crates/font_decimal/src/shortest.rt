@@ -4,6 +4,7 @@
 ghost use Rattle.std.specs.Prelude.{◌≡◌, ◌+◌, ◌-◌, ◌/◌, ◌%◌, ◌≤◌, ◌<◌, ◌∷◌, ◌++◌, length, take};
 ghost use Rattle.std.specs.Prelude.{drop, Some};
 ghost use Rattle.std.specs.{Str.IsAscii, Fmt.decimal, Fmt.sign_text};
+ghost use Rattle.font_decimal.specs.declared.shortest.TheConstants.{LEN};
 ghost use Rattle.font_decimal.specs.Shortest.{fewest_places, nearest_numeral, last_digits};
 
 use std::fmt;
@@ -24,7 +25,7 @@ pub struct Shortest {
     // The text is in these places.
     start: usize,
     end: usize,
-    ghost within: { (start ≤ end) × (end ≤ 31) × (end ≤ start + 22) },
+    ghost within: { (start ≤ end) × (end ≤ LEN) × (end ≤ start + 22) },
     ghost ascii: { IsAscii (take (end - start) (drop start bytes)) },
 }
 
@@ -90,8 +91,8 @@ impl fmt::Display for Shortest {
 fn shortest_fraction(bytes: &mut [u8; LEN], magnitude: u64, f: u32) -> usize
     requires { f ≤ 30 }
     ensures places { result ≡ fewest_places magnitude f }
-    ensures digits { take (21 + result) bytes.new
-        ≡ take 21 bytes.old ++ last_digits result (nearest_numeral magnitude f result) }
+    ensures digits { take (POINT + 1 + result) bytes.new
+        ≡ take (POINT + 1) bytes.old ++ last_digits result (nearest_numeral magnitude f result) }
 {
     let step = 1u64 << f;
     let unit = 1u64 << (f + 1);
@@ -116,8 +117,8 @@ fn shortest_fraction(bytes: &mut [u8; LEN], magnitude: u64, f: u32) -> usize
 #[inline(always)]
 fn put_whole(bytes: &mut [u8; LEN], whole: u64) -> usize
     requires { length (decimal whole) ≤ 19 }
-    ensures start { result + length (decimal whole) ≡ 20 }
-    ensures text { drop result bytes.new ≡ decimal whole ++ drop 20 bytes.old }
+    ensures start { result + length (decimal whole) ≡ POINT }
+    ensures text { drop result bytes.new ≡ decimal whole ++ drop POINT bytes.old }
 {
     let mut left = whole;
     let mut start = POINT;
@@ -135,7 +136,7 @@ fn put_whole(bytes: &mut [u8; LEN], whole: u64) -> usize
 // Writes two digits before index `end`, and returns where they begin.
 #[inline(always)]
 fn put_pair(bytes: &mut [u8; LEN], end: usize, pair: u8) -> usize
-    requires room { (2 ≤ end) × (end ≤ 31) }
+    requires room { (2 ≤ end) × (end ≤ LEN) }
     requires digits { pair < 100 }
     ensures start { result + 2 ≡ end }
     ensures text { drop result bytes.new
@@ -149,7 +150,7 @@ fn put_pair(bytes: &mut [u8; LEN], end: usize, pair: u8) -> usize
 // Writes a `-` before a negative number, and returns where the text begins.
 #[inline(always)]
 fn put_sign(bytes: &mut [u8; LEN], start: usize, negative: bool) -> usize
-    requires { (0 < start) × (start ≤ 31) }
+    requires { (0 < start) × (start ≤ LEN) }
     ensures start { result + length (sign_text negative) ≡ start }
     ensures text { drop result bytes.new ≡ sign_text negative ++ drop start bytes.old }
 {

@@ -27,7 +27,7 @@ const POINT: usize = 20;
 /// <details><summary>Contract</summary>
 ///
 /// ```text
-/// ghost within: { (start ≤ end) × (end ≤ 31) × (end ≤ start + 22) },
+/// ghost within: { (start ≤ end) × (end ≤ LEN) × (end ≤ start + 22) },
 /// ghost ascii: { IsAscii (take (end - start) (drop start bytes)) },
 /// ```
 /// </details>

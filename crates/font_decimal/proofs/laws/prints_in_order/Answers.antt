@@ -1,4 +1,4 @@
-use Rattle.std.proofs.{Common.unsigned_abs, Common.w64, Common.arith, lemmas.Int.ints, lemmas.Int.to_z-of_z}
+use Rattle.std.proofs.{Common.w64, Common.arith, lemmas.Int.ints, lemmas.Int.to_z-of_z}
 use Rattle.font_decimal.proofs.Order.{printed_in_order}
 use Rattle.font_decimal.proofs.laws.prints_in_order.Goals as goal
 

@@ -1,7 +1,7 @@
+use Rattle.font_decimal.specs.{declared.shortest.TheConstants.POINT, Shortest.reads_back}
 use Rattle.std.proofs.Common.{◌≡◌, ◌+◌, ◌*◌, ◌/◌, ◌%◌, ◌^◌, ◌<◌, ◌≤◌, false, arith, sym, ◌∙◌, add-one, below_more, refl}
 use Rattle.std.proofs.Common.{pow-suc, append-nil, append_assoc, take}
 use Rattle.std.proofs.{lemmas.List.length-set, lemmas.Nat.one_shl}
-use Rattle.font_decimal.specs.Shortest.{reads_back}
 use Rattle.font_decimal.proofs.Buffer.{unit_is, nine_places, put_behind, digit_more, digit_raised}
 use Rattle.font_decimal.proofs.Fewest.{place_left, places_are}
 use Rattle.font_decimal.proofs.Remainder.{stopped, fails_here, rounded_up, first_numeral, next_numeral, next_digit}
@@ -36,8 +36,8 @@ loop-margin-preserved c =
     let less : rest < unit = omega (arith, l.rest.below, is) in
     let so_far : p ≤ 9 = nine_places p c.args.f c.requires
     (omega (arith, c.min.ensures, c.loop-margin-test.true, is, l.rest.below, l.margin)) in
-    let end : 21 + (p + 1) ≡ 21 + p + 1 = omega arith in
-    let put = put_behind c.loop-margin.bytes (21 + p) (48 + 10 * rest / unit) (omega (arith, l.long, so_far)) in
+    let end : POINT + 1 + (p + 1) ≡ POINT + 1 + p + 1 = omega arith in
+    let put = put_behind c.loop-margin.bytes (POINT + 1 + p) (48 + 10 * rest / unit) (omega (arith, l.long, so_far)) in
     let more = digit_more p l.numeral (10 * rest / unit) (next_digit rest unit less) in
     record {
       margin = rw (l.margin, add-one) (sym (pow-suc 10 p));
@@ -55,7 +55,7 @@ overflow_add-bytes-then-rest-unit-2 c =
     let l = c.loop-margin.invariant in
     let unit = unit_is c.args.f c.requires in
     let fewest = stopped l.rest (omega (arith, c.min.ensures, unit)) l.within l.fail in
-    let up = digit_raised c.loop-margin.places c.loop-margin.bytes (take 21 c.args.bytes.now) fewest l.rest
+    let up = digit_raised c.loop-margin.places c.loop-margin.bytes (take (POINT + 1) c.args.bytes.now) fewest l.rest
     (omega (arith, c.if-rest-unit.true, unit))
     (omega (arith, c.min.ensures, c.loop-margin-test.false, l.margin, unit)) (omega (arith, l.long, l.few)) l.digits in
     omega (arith, up.fits)
@@ -70,7 +70,7 @@ returns-then-rest-unit-clause-digits c =
     let l = c.loop-margin.invariant in
     let unit = unit_is c.args.f c.requires in
     let fewest = stopped l.rest (omega (arith, c.min.ensures, unit)) l.within l.fail in
-    let up = digit_raised c.loop-margin.places c.loop-margin.bytes (take 21 c.args.bytes.now) fewest l.rest
+    let up = digit_raised c.loop-margin.places c.loop-margin.bytes (take (POINT + 1) c.args.bytes.now) fewest l.rest
     (omega (arith, c.if-rest-unit.true, unit))
     (omega (arith, c.min.ensures, c.loop-margin-test.false, l.margin, unit)) (omega (arith, l.long, l.few)) l.digits in
     rw (rounded_up l.rest (omega (arith, c.if-rest-unit.true, unit))) up.text

@@ -1,6 +1,7 @@
+use Rattle.font_decimal.specs.declared.shortest.TheConstants.{POINT}
+use Rattle.font_decimal.specs.{Shortest.IsShortest, Shortest.shortest_text, Shown.shown}
 use Rattle.std.proofs.Common.{arith, w64, FitsSigned, to_z-of_z, unsigned_abs, ◌≡◌, ◌<◌, ◌+◌}
 use Rattle.font_decimal.proofs.{Buffer.IsText, Buffer.text_made, Printed.shortest_is, Texts.decimal_is_ascii}
-use Rattle.font_decimal.specs.{Shortest.IsShortest, Shortest.shortest_text, Shown.shown}
 use Rattle.font_decimal.proofs.shortest.Shortest.new.Goals as goal
 use Rattle.font_decimal.proofs.shortest.Shortest.new.Goals.{then-places-gt0, else-places-gt0}
 
@@ -14,11 +15,12 @@ made : (c : goal.After-put_sign-start)
 made c =
     let fits : FitsSigned w64 c.args.bits = c.ranges.bits in
     let fraction = c.shortest_fraction-places in
-    let some : 0 < fraction.result → c.if-places-gt0.end ≡ 21 + fraction.result = λ h. elim c.if-places-gt0.branch [
+    let some : 0 < fraction.result → c.if-places-gt0.end ≡ POINT + 1 + fraction.result =
+    λ h. elim c.if-places-gt0.branch [
       | then-places-gt0 w ↦ w.end-is
       | else-places-gt0 w ↦ absurd (omega arith)
     ] in
-    let none : fraction.result ≡ 0 → c.if-places-gt0.end ≡ 20 = λ h. elim c.if-places-gt0.branch [
+    let none : fraction.result ≡ 0 → c.if-places-gt0.end ≡ POINT = λ h. elim c.if-places-gt0.branch [
       | then-places-gt0 w ↦ absurd (omega arith)
       | else-places-gt0 w ↦ w.end-is
     ] in
