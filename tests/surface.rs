@@ -9,8 +9,8 @@ use core::hash::Hash;
 use core::ops;
 use core::str::FromStr;
 use font_types_proved::laws::{action, associative, fixed_identity, identity_neutral};
-use font_types_proved::laws::{composed, f26dot6, fixed, in_turn};
-use font_types_proved::laws::{prints_in_order, reads_in_order, sum_in_parts};
+use font_types_proved::laws::{composed, f26dot6, fixed, image, in_turn};
+use font_types_proved::laws::{printed_again, prints_in_order, reads_in_order, sum_in_parts};
 use font_types_proved::*;
 
 /// Compiles if the functions of a type have these types.
@@ -159,11 +159,16 @@ fn laws() {
     type Texts = (Result<i64, DecimalFault>, Result<i64, DecimalFault>);
     let _: fn(&'static str, &'static str, u32, i64, i64) -> Texts = reads_in_order;
     let _: fn(i64, i64, u32) -> (Shortest, Shortest) = prints_in_order;
+    let _: fn(&'static str, u32, i64, i64) -> Result<Shortest, DecimalFault> = printed_again;
     type Terms = &'static [(Fixed, i32)];
     let _: fn(Terms, Terms) -> (F48Dot16, DeltaSum) = sum_in_parts;
     let _: [fn(Fixed, Fixed) -> [Fixed; 4]; 2] = [fixed::product_laws, fixed::quotient_laws];
     let _: fn(Fixed, Fixed, Fixed, Fixed) -> (Fixed, Fixed) = fixed::scaled_in_order;
     let _: fn(Fixed, Fixed, Fixed, Fixed) -> (Fixed, Fixed, Fixed) = fixed::scaled_distance;
+    let _: fn(Fixed, Fixed, Fixed) -> (Fixed, Fixed) = fixed::scaled_back;
+    type Moved = (Option<Fixed>, Option<Fixed>);
+    let _: fn(Fixed, F48Dot16) -> Moved = fixed::delta_in_steps;
+    let _: fn(Fixed, Fixed, F48Dot16, F48Dot16) -> Moved = fixed::deltas_in_order;
     let _: [fn(F26Dot6, F26Dot6) -> [F26Dot6; 3]; 2] =
         [f26dot6::product_laws, f26dot6::quotient_laws];
     type M = Matrix<Ring>;
@@ -172,6 +177,7 @@ fn laws() {
     let _: fn(M) -> (M, M) = identity_neutral;
     type F = Matrix<Fixed>;
     let _: fn(F) -> (F, F) = fixed_identity;
+    let _: fn(F, Point<Fixed>) -> Point<Fixed> = image;
     let _: [fn(F, F, Point<Fixed>) -> Point<Fixed>; 2] = [composed, in_turn];
 }
 

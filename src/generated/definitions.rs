@@ -8,7 +8,7 @@ pub mod font_decimal {
     /// Decimals: an optional `-`, one or more digits, and optionally a point followed by one or more digits. No plus sign,
     /// exponent or space. This is the project's own textual form of a fixed-point number.
     ///
-    /// In the order of `crates/font_decimal/specs/Grammar.antt`: [`fraction_text`](mod@Grammar::fraction_text), [`HasParts`](mod@Grammar::HasParts), [`Decimal`](mod@Grammar::Decimal), [`IsNoDecimal`](mod@Grammar::IsNoDecimal), [`Plain`](mod@Grammar::Plain).
+    /// In the order of `crates/font_decimal/specs/Grammar.antt`: [`fraction_text`](mod@Grammar::fraction_text), [`HasParts`](mod@Grammar::HasParts), [`Decimal`](mod@Grammar::Decimal), [`IsNoDecimal`](mod@Grammar::IsNoDecimal), [`Plain`](mod@Grammar::Plain), [`Tidy`](mod@Grammar::Tidy).
     pub mod Grammar {
         use crate::definitions::font_decimal::Near::signed;
         /// the fraction as written: nothing if it has no digits, otherwise a point and its digits
@@ -65,6 +65,16 @@ pub mod font_decimal {
         /// ```
         /// [`Decimal`]
         pub mod Plain {}
+
+        /// the decimal has no unnecessary zero, in front or at the end of its fraction, and a `-` if and only if it is negative
+        ///
+        /// ```text
+        /// record Tidy (text : List ℕ) (n : ℤ) (k : ℕ) : Type 0 where
+        ///   plain : Plain text n k
+        ///   no_last_zero : 0 < k → unsigned_abs n % 10 ≢ 0
+        /// ```
+        /// [`Plain`]
+        pub mod Tidy {}
     }
 
     /// Rounding a fraction to an integer. A fixed-point number with f fraction bits is its raw value over 2^f (OpenType,
@@ -2035,7 +2045,7 @@ pub mod font_geom {
     /// Matrices of `Fixed`, over their raw values (OpenType, data types: Fixed is 16.16), and the distance of a transformed
     /// point from its exact image.
     ///
-    /// In the order of `crates/font_geom/specs/FixedMatrix.antt`: [`matrix_bits`](mod@FixedMatrix::matrix_bits), [`point_bits`](mod@FixedMatrix::point_bits), [`rounded_product`](mod@FixedMatrix::rounded_product), [`wrapped_product`](mod@FixedMatrix::wrapped_product), [`wrapped_sum`](mod@FixedMatrix::wrapped_sum), [`fixed_product`](mod@FixedMatrix::fixed_product), [`ProductsAssociate`](mod@FixedMatrix::ProductsAssociate), [`FitsPoint`](mod@FixedMatrix::FitsPoint), [`FitsComposed`](mod@FixedMatrix::FitsComposed), [`FitsInTurn`](mod@FixedMatrix::FitsInTurn), [`exact_coordinate`](mod@FixedMatrix::exact_coordinate), [`exact_image`](mod@FixedMatrix::exact_image), [`IsWithin`](mod@FixedMatrix::IsWithin), [`IsCloseComposed`](mod@FixedMatrix::IsCloseComposed), [`IsCloseInTurn`](mod@FixedMatrix::IsCloseInTurn).
+    /// In the order of `crates/font_geom/specs/FixedMatrix.antt`: [`matrix_bits`](mod@FixedMatrix::matrix_bits), [`point_bits`](mod@FixedMatrix::point_bits), [`rounded_product`](mod@FixedMatrix::rounded_product), [`wrapped_product`](mod@FixedMatrix::wrapped_product), [`wrapped_sum`](mod@FixedMatrix::wrapped_sum), [`fixed_product`](mod@FixedMatrix::fixed_product), [`ProductsAssociate`](mod@FixedMatrix::ProductsAssociate), [`FitsPoint`](mod@FixedMatrix::FitsPoint), [`FitsComposed`](mod@FixedMatrix::FitsComposed), [`FitsInTurn`](mod@FixedMatrix::FitsInTurn), [`exact_row`](mod@FixedMatrix::exact_row), [`IsCloseImage`](mod@FixedMatrix::IsCloseImage), [`exact_coordinate`](mod@FixedMatrix::exact_coordinate), [`exact_image`](mod@FixedMatrix::exact_image), [`IsWithin`](mod@FixedMatrix::IsWithin), [`IsCloseComposed`](mod@FixedMatrix::IsCloseComposed), [`IsCloseInTurn`](mod@FixedMatrix::IsCloseInTurn).
     pub mod FixedMatrix {
         use crate::definitions::font_base::Wrap::FitsBits;
         use crate::definitions::font_base::Wrap::wrap;
@@ -2145,6 +2155,24 @@ pub mod font_geom {
         /// ```
         /// [`FitsPoint`], [`image_of`], [`rounded_product`]
         pub mod FitsInTurn {}
+
+        /// 2^16 times the exact coordinate, as a raw value, of the point p by the row (u, v, d) of a matrix
+        ///
+        /// ```text
+        /// abbrev exact_row : ℤ → ℤ → ℤ → Point ℤ → ℤ
+        /// exact_row u v d p = (u *ℤ p.x) +ℤ (v *ℤ p.y) +ℤ (pos 65536 *ℤ d)
+        /// ```
+        pub mod exact_row {}
+
+        /// the bound for a * p: one unit of the raw value
+        ///
+        /// ```text
+        /// record IsCloseImage (a : Matrix ℤ) (p moved : Point ℤ) : Type 0 where
+        ///   x : unsigned_abs ((pos 65536 *ℤ moved.x) -ℤ exact_row a.xx a.xy a.dx p) ≤ 65536
+        ///   y : unsigned_abs ((pos 65536 *ℤ moved.y) -ℤ exact_row a.yx a.yy a.dy p) ≤ 65536
+        /// ```
+        /// [`exact_row`]
+        pub mod IsCloseImage {}
 
         /// 2^32 times the exact coordinate, as a raw value, of the point p after b and then the row (u, v, d) of another matrix
         ///

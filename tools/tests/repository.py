@@ -36,9 +36,9 @@ COUNTS = [
     ("tests/", ".rs", "#[cfg", 11),
     ("tests/", ".rs", "return;", 0),
     ("tests/", ".rs", "/*", 0),
-    ("crates/", ".rt", "\nmod ", 112),
-    ("crates/", ".edit", "# clause: ", 260),
-    ("crates/", ".edit", "# control: ", 68),
+    ("crates/", ".rt", "\nmod ", 111),
+    ("crates/", ".edit", "# clause: ", 265),
+    ("crates/", ".edit", "# control: ", 71),
     ("crates/fontval/", "stdin", "\n", 213),
     ("c/tests/", ".sh", "\n", 360),
 ]

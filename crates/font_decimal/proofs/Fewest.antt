@@ -13,7 +13,7 @@ use Rattle.font_decimal.proofs.Near.{IsNearMagnitude, rounded_is, next_product}
 nearest_distance : {n d q : ℕ} (m : ℕ) → IsNearMagnitude n d q → abs_diff (q * d) n ≤ abs_diff (m * d) n
 nearest_distance {d = d} {q = q} m r = grind (arith, cases_order m q, next_product m q d, next_product q m d)
 
-abs_diff_times : (k a b : ℕ) → abs_diff (k * a) (k * b) ≡ k * abs_diff a b
+pub abs_diff_times : (k a b : ℕ) → abs_diff (k * a) (k * b) ≡ k * abs_diff a b
 abs_diff_times k a b = rw (sym (mul-sub k a b), sym (mul-sub k b a)) (omega arith)
 
 five_odd : (j : ℕ) → (h : ℕ) × (5 ^ j ≡ 2 * h + 1)

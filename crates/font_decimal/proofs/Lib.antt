@@ -5,6 +5,7 @@ pub mod Readings
 pub mod Order
 pub mod Padded
 pub mod Printed
+pub mod Again
 pub mod Columns
 pub mod Buffer
 mod Digits

@@ -1,6 +1,7 @@
 -- Decimals: an optional `-`, one or more digits, and optionally a point followed by one or more digits. No plus sign,
 -- exponent or space. This is the project's own textual form of a fixed-point number.
-use Rattle.std.specs.Prelude.{◌≡◌, ℕ, ◌↔◌, Bool, IsTrue, List, [], ◌∷◌, ◌++◌, length, slice_index, ℤ, pos, ◌<ℤ◌}
+use Rattle.std.specs.Prelude.{◌≡◌, ℕ, ◌↔◌, Bool, IsTrue, List, [], ◌∷◌, ◌++◌, length, slice_index, ℤ, pos, ◌<ℤ◌, ◌≢◌}
+use Rattle.std.specs.Prelude.{◌%◌, ◌<◌, unsigned_abs}
 use Rattle.std.specs.{Fmt.sign_text, Str.Parse.digits_value, Str.Parse.AllDigits, Str.Parse.IsNumeral}
 use Rattle.font_decimal.specs.Near.{signed}
 
@@ -34,3 +35,8 @@ pub record Plain (text : List ℕ) (n : ℤ) (k : ℕ) : Type 0 where
   pub decimal : Decimal text n k
   pub no_needless_zero : slice_index decimal.whole 0 ≡ 48 → length decimal.whole ≡ 1
   pub minus : IsTrue decimal.negative ↔ (n <ℤ pos 0)
+
+-- the decimal has no unnecessary zero, in front or at the end of its fraction, and a `-` if and only if it is negative
+pub record Tidy (text : List ℕ) (n : ℤ) (k : ℕ) : Type 0 where
+  pub plain : Plain text n k
+  pub no_last_zero : 0 < k → unsigned_abs n % 10 ≢ 0

@@ -1,8 +1,8 @@
 //! Laws of parsing and printing, as contracts of functions.
 
-ghost use Rattle.std.specs.Prelude.{◌≡◌, ◌≤◌, ℤ, ◌≤ℤ◌};
-ghost use Rattle.font_decimal.specs.Reading.{Parses, IsAtMost};
-ghost use Rattle.font_decimal.specs.{Shortest.shortest_text, Shown.shown};
+ghost use Rattle.std.specs.Prelude.{◌≡◌, ◌≤◌, ℤ, ◌≤ℤ◌, ◌<◌, ◌^◌, ℕ, IfOk, IfErr, Err};
+ghost use Rattle.font_decimal.specs.Reading.{Parses, IsAtMost, Reads};
+ghost use Rattle.font_decimal.specs.{Shortest.shortest_text, Shown.shown, Grammar.Tidy};
 
 use crate::{DecimalFault, Shortest, read_decimal};
 
@@ -40,4 +40,27 @@ pub fn prints_in_order(a: i64, b: i64, f: u32) -> (Shortest, Shortest)
     ensures in_order { a ≤ℤ b → IsAtMost (shown result.0) (shown result.1) }
 {
     (Shortest::new(a, f), Shortest::new(b, f))
+}
+
+/// Parses a decimal by `read_decimal`, and formats the value by `Shortest::new`. A decimal without
+/// unnecessary zeros, and with `k` digits after the point for `10^k < 2^f`, is printed again as it
+/// is.
+///
+/// # Errors
+///
+/// Returns the errors of `read_decimal`.
+///
+/// # Panics
+///
+/// Panics in Rust as `read_decimal` does.
+pub fn printed_again(text: &str, f: u32, min: i64, max: i64) -> Result<Shortest, DecimalFault>
+    requires bits_of_fraction { (6 ≤ f) × (f ≤ 30) }
+    ensures printed { IfOk result (λ s. (b : ℤ) × Reads text.now f min max b
+        × (shown s ≡ shortest_text b f)) }
+    ensures refused { IfErr result (λ fault. Parses text.now f min max (Err fault)) }
+    ensures again { (n : ℤ) (k : ℕ) → Tidy text.now n k → 10 ^ k < 2 ^ f
+        → IfOk result (λ s. shown s ≡ text.now) }
+{
+    let bits = read_decimal(text, f, min, max)?;
+    Ok(Shortest::new(bits, f))
 }

@@ -1,7 +1,7 @@
 -- Results that do not overflow are the nearest numbers, so rounding and scaling keep the order, and distances but for
 -- one unit; and the product by the opposite of a factor is the opposite product.
 use Rattle.std.proofs.Common.{◌≡◌, ◌≢◌, ◌∙◌, sym, ap, refl, ℕ, zero, suc, ◌*◌, ◌^◌, ◌<◌, ◌≤◌, ℤ, pos, negsuc, neg_ℤ}
-use Rattle.std.proofs.Common.{◌+ℤ◌, ◌-ℤ◌, ◌*ℤ◌, ◌≤ℤ◌, ◌<ℤ◌, arith, pow_pos, unsigned_abs}
+use Rattle.std.proofs.Common.{◌+ℤ◌, ◌-ℤ◌, ◌*ℤ◌, ◌≤ℤ◌, ◌<ℤ◌, arith, pow_pos, unsigned_abs, suc-mul}
 use Rattle.std.proofs.{lemmas.Int.ints, lemmas.Int.unsigned_abs-mul, Math.IntN.*ℤ-negsuc, Math.IntN.neg_ℤ-neg_ℤ}
 use Rattle.font_base.specs.Wrap.Laws.{wrap-fits, wrap_is, wrap_same}
 use Rattle.font_base.specs.{Integers.sum-times, Wrap.wrap, Wrap.FitsBits}
@@ -45,6 +45,13 @@ rounded_in_order w f x y r s wide first second order fits_r fits_s =
     let kept_s : s ≡ rounded f y = second.is ∙ wrap-fits w (rounded f y) wide fits_s in
     let whole = up_monotone (up_is x (2 ^ f) (pow_pos f)) (up_is y (2 ^ f) (pow_pos f)) order in
     rw (kept_r, kept_s) (times_monotone _ _ (2 ^ f) whole)
+
+-- nor of two that are moved by deltas, if the delta of the greater is not the smaller
+pub moved_in_order : (x y d e : ℤ) → x ≤ℤ y → d ≤ℤ e
+    → up (x *ℤ pos 65536 +ℤ d) 65536 ≤ℤ up (y *ℤ pos 65536 +ℤ e) 65536
+moved_in_order x y d e order more =
+    up_monotone (up_is (x *ℤ pos 65536 +ℤ d) 65536 (omega arith)) (up_is (y *ℤ pos 65536 +ℤ e) 65536 (omega arith))
+    (omega (arith, ints, times_monotone x y 65536 order, more))
 
 -- ---- opposites
 
@@ -111,6 +118,36 @@ pub scaled_distance : (w : ℕ) (x y a c r s t : ℤ) → 0 < w → c ≢ pos 0 
     → unsigned_abs ((r -ℤ s) -ℤ t) ≤ 1
 scaled_distance w x y a c r s t wide some first second third fits fits_r fits_s fits_t =
     grind (arith, exact_distance, wrap-fits)
+
+-- ---- up and back
+
+no_half : (j a : ℕ) → 0 < a → 2 * (j * a) ≡ a → ⊥
+no_half zero a some half = omega (arith, some, half)
+no_half (suc j) a some half = omega (arith, some, half, suc-mul j a)
+
+-- a number that is scaled up and then down by one ratio
+back : (x r : ℤ) (a c : ℕ) → 0 < c → c ≤ a → Near (x *ℤ pos a) c r → near (r *ℤ pos c) a ≡ x
+back x r a c some most given =
+    sym (near_gives (r *ℤ pos c) a x (omega (arith, some, most)) (record {
+      close = omega (arith, ints, given.close, most);
+      away = λ tie.
+          let same : c ≡ a = omega (arith, ints, given.close, most, tie) in
+          let apart : 2 * unsigned_abs ((x -ℤ r) *ℤ pos a) ≡ a =
+          omega (arith, ints, tie, difference-times x r (pos a), ap (λ k. r *ℤ pos k) same) in
+          absurd (no_half (unsigned_abs (x -ℤ r)) a (omega (arith, some, most))
+          (rw (unsigned_abs-mul (x -ℤ r) (pos a)) at apart));
+    }))
+
+pub scaled_back : (w : ℕ) (x a c r s : ℤ) → 0 < w → FitsBits w x → IsMulDiv w x a c r → IsMulDiv w r c a s
+    → pos 0 <ℤ c → c ≤ℤ a → FitsBits w (rounded_mul_div x a c) → s ≡ x
+scaled_back w x (pos (suc a)) (pos (suc c)) r s wide fits first second some most fits_r =
+    let kept = kept_near w (suc c) _ r wide (omega arith) first fits_r in
+    let same = back x r (suc a) (suc c) (omega arith) (omega (arith, ints, most)) kept in
+    second.is ∙ ap (λ n. wrap w n) same ∙ wrap-fits w x wide fits
+scaled_back w x (pos zero) (pos (suc c)) r s wide fits first second some most fits_r = grind (arith, ints)
+scaled_back w x (negsuc a) (pos (suc c)) r s wide fits first second some most fits_r = grind (arith, ints)
+scaled_back w x a (pos zero) r s wide fits first second some most fits_r = grind (arith, ints)
+scaled_back w x a (negsuc c) r s wide fits first second some most fits_r = grind (arith, ints)
 
 -- ---- for callers
 pub ruleset order_calls = (scaled_in_order, narrowed_in_order, rounded_in_order)

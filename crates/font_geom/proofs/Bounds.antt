@@ -10,8 +10,9 @@ use Rattle.font_decimal.proofs.Near.{near_is}
 use Rattle.font_fixed.proofs.Sums.{sums}
 use Rattle.font_geom.specs.Matrix.{linear_form, affine_form, image_of, matrix_product, FitsEach}
 use Rattle.font_geom.specs.FixedMatrix.{rounded_product, wrapped_product, wrapped_sum, exact_coordinate, IsWithin}
-use Rattle.font_geom.specs.FixedMatrix.{FitsComposed, FitsInTurn, IsCloseComposed, IsCloseInTurn, FitsPoint, IsBounded}
-use Rattle.font_geom.specs.FixedMatrix.{IsBoundedPoint, form_bound, has_room_composed, has_room_in_turn}
+use Rattle.font_geom.specs.FixedMatrix.{exact_row, IsCloseImage, FitsComposed, FitsInTurn, IsCloseComposed}
+use Rattle.font_geom.specs.FixedMatrix.{IsCloseInTurn, FitsPoint, IsBounded, IsBoundedPoint, form_bound}
+use Rattle.font_geom.specs.FixedMatrix.{has_room_composed, has_room_in_turn}
 use Rattle.font_geom.specs.{declared.matrix.Matrix.Matrix, declared.point.Point.Point}
 
 -- a and b are at most e apart
@@ -37,6 +38,10 @@ linear_close p x q y = omega (arith, sums, rounded_close p x, rounded_close q y)
 affine_close : (p x q y d : ℤ) → Close 65536 (affine_form ◌+ℤ◌ rounded_product p x q y d *ℤ pos 65536)
     (affine_form ◌+ℤ◌ ◌*ℤ◌ p x q y (pos 65536 *ℤ d))
 affine_close p x q y d = omega (arith, sums, rounded_close p x, rounded_close q y)
+
+image_close : (p q d : ℤ) (at : Point ℤ) → unsigned_abs
+    ((pos 65536 *ℤ affine_form ◌+ℤ◌ rounded_product p at.x q at.y d) -ℤ exact_row p q d at) ≤ 65536
+image_close p q d at = omega (arith, sums, affine_close p at.x q at.y d)
 
 -- a second rounding, of numbers u, v and w that are near to finer ones
 row_close : (e f : ℕ) (u v w x y fine_u fine_v fine_w : ℤ) → Close e (u *ℤ pos 65536) fine_u
@@ -107,6 +112,10 @@ in_turn_close p q d b at =
     rw (*ℤ_comm p u, *ℤ_comm q v, *ℤ_comm p fine_u, *ℤ_comm q fine_v) (omega (arith, sums, close))
 
 -- ---- results of the calls: wrapping changes nothing if the exact sums fit in 32 bits
+
+pub image_is_close : (a : Matrix ℤ) (p moved : Point ℤ) → moved ≡ image_of wrapped_sum wrapped_product a p
+    → FitsPoint (image_of ◌+ℤ◌ rounded_product a p) → IsCloseImage a p moved
+image_is_close a p moved value fits = grind (arith, wrap-add_left, wrap-add_right, wrap-fits, image_close)
 
 pub composed_is_close : (a b : Matrix ℤ) (p moved : Point ℤ) → moved ≡ image_of wrapped_sum wrapped_product
     (matrix_product wrapped_sum wrapped_product a b) p

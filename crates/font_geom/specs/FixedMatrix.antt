@@ -92,6 +92,15 @@ has_room_in_turn m d m' d' n =
 
 -- ---- the exact image
 
+-- 2^16 times the exact coordinate, as a raw value, of the point p by the row (u, v, d) of a matrix
+abbrev pub exact_row : ℤ → ℤ → ℤ → Point ℤ → ℤ
+exact_row u v d p = (u *ℤ p.x) +ℤ (v *ℤ p.y) +ℤ (pos 65536 *ℤ d)
+
+-- the bound for a * p: one unit of the raw value
+pub record IsCloseImage (a : Matrix ℤ) (p moved : Point ℤ) : Type 0 where
+  pub x : unsigned_abs ((pos 65536 *ℤ moved.x) -ℤ exact_row a.xx a.xy a.dx p) ≤ 65536
+  pub y : unsigned_abs ((pos 65536 *ℤ moved.y) -ℤ exact_row a.yx a.yy a.dy p) ≤ 65536
+
 -- 2^32 times the exact coordinate, as a raw value, of the point p after b and then the row (u, v, d) of another matrix
 abbrev pub exact_coordinate : ℤ → ℤ → ℤ → Matrix ℤ → Point ℤ → ℤ
 exact_coordinate u v d b p =

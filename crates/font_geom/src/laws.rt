@@ -1,9 +1,10 @@
 //! Laws of matrices, as contracts of functions that make the calls and return their results.
 
-ghost use Rattle.std.specs.Prelude.{◌≡◌, pos};
+ghost use Rattle.std.specs.Prelude.{◌≡◌, ◌+ℤ◌, pos};
 ghost use Rattle.font_geom.specs.Matrix.{identity_matrix, image_of, matrix_product};
 ghost use Rattle.font_geom.specs.FixedMatrix.{matrix_bits, point_bits, wrapped_sum};
 ghost use Rattle.font_geom.specs.FixedMatrix.{wrapped_product, FitsComposed, FitsInTurn};
+ghost use Rattle.font_geom.specs.FixedMatrix.{rounded_product, FitsPoint, IsCloseImage};
 ghost use Rattle.font_geom.specs.FixedMatrix.{IsCloseComposed, IsCloseInTurn, ProductsAssociate};
 ghost use Rattle.font_fixed.specs.Fixed.{fixed_bits};
 
@@ -68,6 +69,19 @@ pub fn step_and_halves() -> (Fixed, Fixed)
 {
     let (step, half) = (Fixed::EPSILON, Fixed::from_bits(0x8000));
     (step * half * half, step * (half * half))
+}
+
+/// Returns `a * p`, with a bound on the distance from the exact image of `p`.
+///
+/// If no coordinate of the result overflows 32 bits, each is at most one raw unit from the exact
+/// one. Intermediate sums may wrap.
+pub fn image(a: Matrix<Fixed>, p: Point<Fixed>) -> Point<Fixed>
+    ensures value { point_bits result
+        ≡ image_of wrapped_sum wrapped_product (matrix_bits a) (point_bits p) }
+    ensures close { FitsPoint (image_of ◌+ℤ◌ rounded_product (matrix_bits a) (point_bits p))
+        → IsCloseImage (matrix_bits a) (point_bits p) (point_bits result) }
+{
+    a * p
 }
 
 /// Returns `(a * b) * p`, with a bound on the distance from the exact image of `p`.

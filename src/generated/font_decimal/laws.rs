@@ -3,9 +3,13 @@
 //! Laws of parsing and printing, as contracts of functions.
 
 #[cfg(doc)]
+use crate::definitions::font_decimal::Grammar::Tidy;
+#[cfg(doc)]
 use crate::definitions::font_decimal::Reading::IsAtMost;
 #[cfg(doc)]
 use crate::definitions::font_decimal::Reading::Parses;
+#[cfg(doc)]
+use crate::definitions::font_decimal::Reading::Reads;
 #[cfg(doc)]
 use crate::definitions::font_decimal::Shortest::shortest_text;
 #[cfg(doc)]
@@ -62,4 +66,34 @@ pub fn reads_in_order(
 #[inline]
 pub fn prints_in_order(a: i64, b: i64, f: u32) -> (Shortest, Shortest) {
     (Shortest::new(a, f), Shortest::new(b, f))
+}
+
+/// Parses a decimal by `read_decimal`, and formats the value by `Shortest::new`. A decimal without
+/// unnecessary zeros, and with `k` digits after the point for `10^k < 2^f`, is printed again as it
+/// is.
+///
+/// # Errors
+///
+/// Returns the errors of `read_decimal`.
+///
+/// # Panics
+///
+/// Panics in Rust as `read_decimal` does.
+///
+/// <details><summary>Contract</summary>
+///
+/// ```text
+/// requires bits_of_fraction { (6 ≤ f) × (f ≤ 30) }
+/// ensures printed { IfOk result (λ s. (b : ℤ) × Reads text.now f min max b
+///     × (shown s ≡ shortest_text b f)) }
+/// ensures refused { IfErr result (λ fault. Parses text.now f min max (Err fault)) }
+/// ensures again { (n : ℤ) (k : ℕ) → Tidy text.now n k → 10 ^ k < 2 ^ f
+///     → IfOk result (λ s. shown s ≡ text.now) }
+/// ```
+/// [`Reads`], [`shown`], [`shortest_text`], [`Parses`], [`Tidy`]
+/// </details>
+#[inline]
+pub fn printed_again(text: &str, f: u32, min: i64, max: i64) -> Result<Shortest, DecimalFault> {
+    let bits = read_decimal(text, f, min, max)?;
+    Ok(Shortest::new(bits, f))
 }

@@ -9,7 +9,11 @@ use crate::definitions::font_geom::FixedMatrix::FitsComposed;
 #[cfg(doc)]
 use crate::definitions::font_geom::FixedMatrix::FitsInTurn;
 #[cfg(doc)]
+use crate::definitions::font_geom::FixedMatrix::FitsPoint;
+#[cfg(doc)]
 use crate::definitions::font_geom::FixedMatrix::IsCloseComposed;
+#[cfg(doc)]
+use crate::definitions::font_geom::FixedMatrix::IsCloseImage;
 #[cfg(doc)]
 use crate::definitions::font_geom::FixedMatrix::IsCloseInTurn;
 #[cfg(doc)]
@@ -18,6 +22,8 @@ use crate::definitions::font_geom::FixedMatrix::ProductsAssociate;
 use crate::definitions::font_geom::FixedMatrix::matrix_bits;
 #[cfg(doc)]
 use crate::definitions::font_geom::FixedMatrix::point_bits;
+#[cfg(doc)]
+use crate::definitions::font_geom::FixedMatrix::rounded_product;
 #[cfg(doc)]
 use crate::definitions::font_geom::FixedMatrix::wrapped_product;
 #[cfg(doc)]
@@ -129,6 +135,27 @@ pub fn fixed_identity(a: Matrix<Fixed>) -> (Matrix<Fixed>, Matrix<Fixed>) {
 pub fn step_and_halves() -> (Fixed, Fixed) {
     let (step, half) = (Fixed::EPSILON, Fixed::from_bits(0x8000));
     (step * half * half, step * (half * half))
+}
+
+/// Returns `a * p`, with a bound on the distance from the exact image of `p`.
+///
+/// If no coordinate of the result overflows 32 bits, each is at most one raw unit from the exact
+/// one. Intermediate sums may wrap.
+///
+/// <details><summary>Contract</summary>
+///
+/// ```text
+/// ensures value { point_bits result
+///     ≡ image_of wrapped_sum wrapped_product (matrix_bits a) (point_bits p) }
+/// ensures close { FitsPoint (image_of ◌+ℤ◌ rounded_product (matrix_bits a) (point_bits p))
+///     → IsCloseImage (matrix_bits a) (point_bits p) (point_bits result) }
+/// ```
+/// [`point_bits`], [`image_of`], [`wrapped_sum`], [`wrapped_product`], [`matrix_bits`], [`FitsPoint`], [`rounded_product`], [`IsCloseImage`]
+/// </details>
+#[must_use]
+#[inline]
+pub fn image(a: Matrix<Fixed>, p: Point<Fixed>) -> Point<Fixed> {
+    a * p
 }
 
 /// Returns `(a * b) * p`, with a bound on the distance from the exact image of `p`.

@@ -11,11 +11,12 @@ use crate::definitions::font_types::Delta::exact_sum;
 #[cfg(doc)]
 use crate::definitions::font_types::DeltaSum::steps_of;
 
-pub use crate::font_decimal::laws::{prints_in_order, reads_in_order};
+pub use crate::font_decimal::laws::{printed_again, prints_in_order, reads_in_order};
 pub use crate::font_fixed::laws::{f26dot6, fixed};
 use crate::font_fixed::{F48Dot16, Fixed};
 pub use crate::font_geom::laws::{
-    action, associative, composed, fixed_identity, identity_neutral, in_turn, step_and_halves,
+    action, associative, composed, fixed_identity, identity_neutral, image, in_turn,
+    step_and_halves,
 };
 use crate::font_types::delta::sum_of;
 use crate::font_types::{DeltaSum, delta_sum};

@@ -1,13 +1,15 @@
 //! Laws of [`Fixed`], as contracts of functions.
 
-ghost use Rattle.std.specs.Prelude.{pos, unsigned_abs, ◌≢◌, ◌≤◌, ◌-ℤ◌, ◌≤ℤ◌, ◌<ℤ◌};
+ghost use Rattle.std.specs.Prelude.{pos, unsigned_abs, ◌≡◌, ◌≢◌, ◌≤◌, ◌↔◌, ◌+ℤ◌, ◌-ℤ◌, ◌*ℤ◌, ◌≤ℤ◌};
+ghost use Rattle.std.specs.Prelude.{◌<ℤ◌, IsSome, IfSome};
 ghost use Rattle.font_base.specs.Wrap.{wrap, FitsBits};
-ghost use Rattle.font_fixed.specs.Fixed.{fixed_bits};
+ghost use Rattle.font_decimal.specs.Near.{up};
 ghost use Rattle.font_fixed.specs.Operations.{IsMulDiv, rounded_mul_div};
 ghost use Rattle.font_fixed.specs.NumberLaws.{OnFour, ProductLaws, ProductInOneStep, QuotientLaws};
 ghost use Rattle.font_fixed.specs.NumberLaws.{QuotientInOneStep};
+ghost use Rattle.font_fixed.specs.{Fixed.fixed_bits, F48Dot16.f48dot16_bits};
 
-use crate::Fixed;
+use crate::{F48Dot16, Fixed};
 
 /// Returns `x * y`, `y * x`, `x * ONE` and `x.mul_div(y, ONE)`: the third is `x`, and the others
 /// are equal.
@@ -73,4 +75,57 @@ pub fn scaled_distance(x: Fixed, y: Fixed, a: Fixed, c: Fixed) -> (Fixed, Fixed,
         → unsigned_abs ((fixed_bits result.0 -ℤ fixed_bits result.1) -ℤ fixed_bits result.2) ≤ 1 }
 {
     (x.mul_div(a, c), y.mul_div(a, c), (x - y).mul_div(a, c))
+}
+
+/// Returns `x.mul_div(a, c)`, and that result by `mul_div(c, a)`: up and back. If `0 < c <= a` and
+/// the first does not overflow, the second is `x`.
+pub fn scaled_back(x: Fixed, a: Fixed, c: Fixed) -> (Fixed, Fixed)
+    ensures first { IsMulDiv 32 (fixed_bits x) (fixed_bits a) (fixed_bits c)
+        (fixed_bits result.0) }
+    ensures second { IsMulDiv 32 (fixed_bits result.0) (fixed_bits c) (fixed_bits a)
+        (fixed_bits result.1) }
+    ensures back { pos 0 <ℤ fixed_bits c → fixed_bits c ≤ℤ fixed_bits a
+        → FitsBits 32 (rounded_mul_div (fixed_bits x) (fixed_bits a) (fixed_bits c))
+        → fixed_bits result.1 ≡ fixed_bits x }
+{
+    let scaled = x.mul_div(a, c);
+    (scaled, scaled.mul_div(c, a))
+}
+
+/// Returns `x.checked_add_delta(delta)`, and `round_delta` of `x.apply_delta(delta)`, which are
+/// equal.
+pub fn delta_in_steps(x: Fixed, delta: F48Dot16) -> (Option<Fixed>, Option<Fixed>)
+    ensures variant { IsSome result.0
+        ↔ FitsBits 32 (up (fixed_bits x *ℤ pos 65536 +ℤ f48dot16_bits delta) 65536) }
+    ensures value { IfSome result.0 (λ moved. fixed_bits moved
+        ≡ up (fixed_bits x *ℤ pos 65536 +ℤ f48dot16_bits delta) 65536) }
+    ensures equal { result.0 ≡ result.1 }
+{
+    (
+        x.checked_add_delta(delta),
+        Fixed::round_delta(x.apply_delta(delta)),
+    )
+}
+
+/// Returns `x.checked_add_delta(first)` and `y.checked_add_delta(second)`. If `x <= y` and
+/// `first <= second`, and neither overflows, the second result is not less than the first.
+#[tactic(auto, using(crate::proofs::Orders::moved_in_order))]
+pub fn deltas_in_order(
+    x: Fixed,
+    y: Fixed,
+    first: F48Dot16,
+    second: F48Dot16,
+) -> (Option<Fixed>, Option<Fixed>)
+    ensures variant { IsSome result.0
+        ↔ FitsBits 32 (up (fixed_bits x *ℤ pos 65536 +ℤ f48dot16_bits first) 65536) }
+    ensures value { IfSome result.0 (λ moved. fixed_bits moved
+        ≡ up (fixed_bits x *ℤ pos 65536 +ℤ f48dot16_bits first) 65536) }
+    ensures variant_too { IsSome result.1
+        ↔ FitsBits 32 (up (fixed_bits y *ℤ pos 65536 +ℤ f48dot16_bits second) 65536) }
+    ensures value_too { IfSome result.1 (λ moved. fixed_bits moved
+        ≡ up (fixed_bits y *ℤ pos 65536 +ℤ f48dot16_bits second) 65536) }
+    ensures in_order { fixed_bits x ≤ℤ fixed_bits y → f48dot16_bits first ≤ℤ f48dot16_bits second
+        → IfSome result.0 (λ a. IfSome result.1 (λ b. fixed_bits a ≤ℤ fixed_bits b)) }
+{
+    (x.checked_add_delta(first), y.checked_add_delta(second))
 }

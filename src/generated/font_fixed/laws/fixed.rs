@@ -7,6 +7,10 @@ use crate::definitions::font_base::Wrap::FitsBits;
 #[cfg(doc)]
 use crate::definitions::font_base::Wrap::wrap;
 #[cfg(doc)]
+use crate::definitions::font_decimal::Near::up;
+#[cfg(doc)]
+use crate::definitions::font_fixed::F48Dot16::f48dot16_bits;
+#[cfg(doc)]
 use crate::definitions::font_fixed::Fixed::fixed_bits;
 #[cfg(doc)]
 use crate::definitions::font_fixed::NumberLaws::OnFour;
@@ -23,7 +27,7 @@ use crate::definitions::font_fixed::Operations::IsMulDiv;
 #[cfg(doc)]
 use crate::definitions::font_fixed::Operations::rounded_mul_div;
 
-use crate::font_fixed::Fixed;
+use crate::font_fixed::{F48Dot16, Fixed};
 
 /// Returns `x * y`, `y * x`, `x * ONE` and `x.mul_div(y, ONE)`: the third is `x`, and the others
 /// are equal.
@@ -119,4 +123,77 @@ pub fn scaled_in_order(x: Fixed, y: Fixed, a: Fixed, c: Fixed) -> (Fixed, Fixed)
 #[inline]
 pub fn scaled_distance(x: Fixed, y: Fixed, a: Fixed, c: Fixed) -> (Fixed, Fixed, Fixed) {
     (x.mul_div(a, c), y.mul_div(a, c), (x - y).mul_div(a, c))
+}
+
+/// Returns `x.mul_div(a, c)`, and that result by `mul_div(c, a)`: up and back. If `0 < c <= a` and
+/// the first does not overflow, the second is `x`.
+///
+/// <details><summary>Contract</summary>
+///
+/// ```text
+/// ensures first { IsMulDiv 32 (fixed_bits x) (fixed_bits a) (fixed_bits c)
+///     (fixed_bits result.0) }
+/// ensures second { IsMulDiv 32 (fixed_bits result.0) (fixed_bits c) (fixed_bits a)
+///     (fixed_bits result.1) }
+/// ensures back { pos 0 <ℤ fixed_bits c → fixed_bits c ≤ℤ fixed_bits a
+///     → FitsBits 32 (rounded_mul_div (fixed_bits x) (fixed_bits a) (fixed_bits c))
+///     → fixed_bits result.1 ≡ fixed_bits x }
+/// ```
+/// [`IsMulDiv`], [`fixed_bits`], [`FitsBits`], [`rounded_mul_div`]
+/// </details>
+#[must_use]
+#[inline]
+pub fn scaled_back(x: Fixed, a: Fixed, c: Fixed) -> (Fixed, Fixed) {
+    let scaled = x.mul_div(a, c);
+    (scaled, scaled.mul_div(c, a))
+}
+
+/// Returns `x.checked_add_delta(delta)`, and `round_delta` of `x.apply_delta(delta)`, which are
+/// equal.
+///
+/// <details><summary>Contract</summary>
+///
+/// ```text
+/// ensures variant { IsSome result.0
+///     ↔ FitsBits 32 (up (fixed_bits x *ℤ pos 65536 +ℤ f48dot16_bits delta) 65536) }
+/// ensures value { IfSome result.0 (λ moved. fixed_bits moved
+///     ≡ up (fixed_bits x *ℤ pos 65536 +ℤ f48dot16_bits delta) 65536) }
+/// ensures equal { result.0 ≡ result.1 }
+/// ```
+/// [`FitsBits`], [`up`], [`fixed_bits`], [`f48dot16_bits`]
+/// </details>
+#[must_use]
+#[inline]
+pub fn delta_in_steps(x: Fixed, delta: F48Dot16) -> (Option<Fixed>, Option<Fixed>) {
+    (x.checked_add_delta(delta), Fixed::round_delta(x.apply_delta(delta)))
+}
+
+/// Returns `x.checked_add_delta(first)` and `y.checked_add_delta(second)`. If `x <= y` and
+/// `first <= second`, and neither overflows, the second result is not less than the first.
+///
+/// <details><summary>Contract</summary>
+///
+/// ```text
+/// ensures variant { IsSome result.0
+///     ↔ FitsBits 32 (up (fixed_bits x *ℤ pos 65536 +ℤ f48dot16_bits first) 65536) }
+/// ensures value { IfSome result.0 (λ moved. fixed_bits moved
+///     ≡ up (fixed_bits x *ℤ pos 65536 +ℤ f48dot16_bits first) 65536) }
+/// ensures variant_too { IsSome result.1
+///     ↔ FitsBits 32 (up (fixed_bits y *ℤ pos 65536 +ℤ f48dot16_bits second) 65536) }
+/// ensures value_too { IfSome result.1 (λ moved. fixed_bits moved
+///     ≡ up (fixed_bits y *ℤ pos 65536 +ℤ f48dot16_bits second) 65536) }
+/// ensures in_order { fixed_bits x ≤ℤ fixed_bits y → f48dot16_bits first ≤ℤ f48dot16_bits second
+///     → IfSome result.0 (λ a. IfSome result.1 (λ b. fixed_bits a ≤ℤ fixed_bits b)) }
+/// ```
+/// [`FitsBits`], [`up`], [`fixed_bits`], [`f48dot16_bits`]
+/// </details>
+#[must_use]
+#[inline]
+pub fn deltas_in_order(
+    x: Fixed,
+    y: Fixed,
+    first: F48Dot16,
+    second: F48Dot16,
+) -> (Option<Fixed>, Option<Fixed>) {
+    (x.checked_add_delta(first), y.checked_add_delta(second))
 }
