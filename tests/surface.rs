@@ -9,8 +9,8 @@ use core::hash::Hash;
 use core::ops;
 use core::str::FromStr;
 use font_types_proved::laws::{action, associative, fixed_identity, identity_neutral};
-use font_types_proved::laws::{composed, f26dot6, fixed, image, in_turn};
-use font_types_proved::laws::{printed_again, prints_in_order, reads_in_order, sum_in_parts};
+use font_types_proved::laws::{composed, f26dot6, fixed, image, in_turn, printed_again};
+use font_types_proved::laws::{prints_in_order, reads_in_order, scaled_in_parts, sum_in_parts};
 use font_types_proved::*;
 
 /// Compiles if the functions of a type have these types.
@@ -162,6 +162,7 @@ fn laws() {
     let _: fn(&'static str, u32, i64, i64) -> Result<Shortest, DecimalFault> = printed_again;
     type Terms = &'static [(Fixed, i32)];
     let _: fn(Terms, Terms) -> (F48Dot16, DeltaSum) = sum_in_parts;
+    let _: fn(&[Fixed], Fixed, Fixed) -> (Fixed, Fixed) = scaled_in_parts;
     let _: [fn(Fixed, Fixed) -> [Fixed; 4]; 2] = [fixed::product_laws, fixed::quotient_laws];
     let _: fn(Fixed, Fixed, Fixed, Fixed) -> (Fixed, Fixed) = fixed::scaled_in_order;
     let _: fn(Fixed, Fixed, Fixed, Fixed) -> (Fixed, Fixed, Fixed) = fixed::scaled_distance;

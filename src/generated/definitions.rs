@@ -2411,10 +2411,11 @@ pub mod font_types {
     /// A joined list has the sum of both, and the order of the terms does not matter (lemmas `total-append`,
     /// `total-permuted`).
     ///
-    /// In the order of `crates/font_types/specs/Delta.antt`: [`total`](mod@Delta::total), [`term_product`](mod@Delta::term_product), [`exact_sum`](mod@Delta::exact_sum).
+    /// In the order of `crates/font_types/specs/Delta.antt`: [`total`](mod@Delta::total), [`term_product`](mod@Delta::term_product), [`exact_sum`](mod@Delta::exact_sum), [`scaled`](mod@Delta::scaled).
     pub mod Delta {
         use crate::definitions::font_fixed::Fixed::Fixed;
         use crate::definitions::font_fixed::Fixed::fixed_bits;
+        use crate::definitions::font_fixed::Operations::rounded_mul_div;
         /// the exact sum of an integer for each element of a list
         ///
         /// ```text
@@ -2440,6 +2441,15 @@ pub mod font_types {
         /// ```
         /// [`Fixed`], [`total`], [`term_product`]
         pub mod exact_sum {}
+
+        /// the raw value of a number that is scaled by a / c and rounded, for c other than 0
+        ///
+        /// ```text
+        /// abbrev scaled : ℤ → ℤ → Fixed → ℤ
+        /// scaled a c x = rounded_mul_div (fixed_bits x) a c
+        /// ```
+        /// [`Fixed`], [`rounded_mul_div`], [`fixed_bits`]
+        pub mod scaled {}
     }
 
     /// An accumulator of deltas.

@@ -1,6 +1,7 @@
 -- Sums that wrap at each step: each is the exact sum, wrapped.
 use Rattle.std.proofs.Common.{◌≡◌, ◌∙◌, sym, ap, ℕ, ◌+◌, ◌<◌, List, length, take, get_or, ℤ, pos, ◌+ℤ◌, lit<, arith}
-use Rattle.std.proofs.Common.{◌≤◌, ◌++◌, ◌*ℤ◌, ◌%◌, ◌^◌, w16, w32, SFits, to_z, of_z, refl, lit≤, unsigned_abs}
+use Rattle.std.proofs.Common.{◌≤◌, ◌++◌, ◌*ℤ◌, ◌%◌, ◌^◌, w16, w32, SFits, to_z, of_z, refl, lit≤, unsigned_abs, zero}
+use Rattle.std.proofs.Common.{suc, negsuc, ◌-ℤ◌, ◌*◌, ◌<ℤ◌}
 use Rattle.std.proofs.lemmas.Int.{ints, wrapping_add_onto}
 use Rattle.std.proofs.{Math.IntN.+ℤ_assoc, Math.Nat.mul-le-mul, lemmas.List.take_all, lemmas.List.Sums.fold_more}
 use Rattle.std.specs.Int.{w128}
@@ -8,10 +9,12 @@ use Rattle.font_base.proofs.{Moved.bytes_moved, Widths.int_wrap-wrap}
 use Rattle.font_base.specs.Wrap.{wrap, FitsBits}
 use Rattle.font_base.specs.Wrap.Laws.{wrap-add_left, wrap-add_right, wrap-fits, wrap-wrap}
 use Rattle.font_fixed.proofs.{Calls.fits_16, Wrapped.wrapping_add-wrap, FixedCalls.fixed_calls}
+use Rattle.font_fixed.specs.Operations.{IsMulDiv, rounded_mul_div}
 use Rattle.font_fixed.specs.{Fixed.Fixed, Fixed.fixed_bits, F26Dot6.f26dot6_bits, F48Dot16.f48dot16_bits}
 use Rattle.font_geom.specs.declared.point.Point.{Point}
 use Rattle.font_ids.specs.FWord.{fword_number}
-use Rattle.font_types.specs.{Delta.total, Delta.term_product, Delta.exact_sum, Delta.Laws.total-append}
+use Rattle.font_types.specs.Delta.{total, term_product, exact_sum, scaled}
+use Rattle.font_types.specs.Delta.Laws.{total-append, total-near, total-times}
 
 -- one term more, of a list of anything
 pub running_total : {T : Type 0} (w : ℕ) (number_of : T → ℤ) (xs : List T) (i : ℕ) (d : T) → 0 < w → i < length xs
@@ -168,3 +171,43 @@ pub ruleset delta_sum_calls = (fixed_calls, delta_rules)
 pub ruleset sum_calls_16 = (wrapping_add-wrap, bytes_moved, running_words, none_16, running_16, sum_onto_16)
 
 pub ruleset sum_calls_32 = (none_32, running_32, sum_onto_32)
+
+-- ---- numbers that are scaled one by one
+
+scaled_once : (w : ℕ) (x a c r : ℤ) → pos 0 <ℤ c → IsMulDiv w x a c r → r ≡ wrap w (rounded_mul_div x a c)
+scaled_once w x a (pos zero) r some given = grind arith
+scaled_once w x a (pos (suc c)) r some given = given.is
+scaled_once w x a (negsuc c) r some given = grind arith
+
+pub one_more_scaled : (a c : ℤ) (xs : List Fixed) (i : ℕ) (d : Fixed) (sum one next : ℤ) → i < length xs → pos 0 <ℤ c
+    → sum ≡ wrap 32 (total (scaled a c) (take i xs)) → IsMulDiv 32 (fixed_bits (get_or xs i d)) a c one
+    → next ≡ wrap 32 (sum +ℤ one) → next ≡ wrap 32 (total (scaled a c) (take (i + 1) xs))
+one_more_scaled a c xs i d sum one next within some so_far by is =
+    let kept = scaled_once 32 (fixed_bits (get_or xs i d)) a c one some by in
+    let more = running_total 32 (scaled a c) xs i d (lit< tt) within in
+    let split = wrap-add_right 32 (wrap 32 (total (scaled a c) (take i xs))) (scaled a c (get_or xs i d)) (lit< tt) in
+    is ∙ rw (so_far, kept) (split ∙ more)
+
+-- the sum of products with one factor
+times_total : (a : ℤ) (xs : List Fixed) → total (λ x. fixed_bits x *ℤ a) xs ≡ (total fixed_bits xs *ℤ a)
+times_total a xs = total-times fixed_bits a xs
+
+pub scaled_close : (a c : ℤ) (xs : List Fixed) → pos 0 <ℤ c
+    → 2 * unsigned_abs (total (scaled a c) xs -ℤ rounded_mul_div (total fixed_bits xs) a c) ≤ length xs + 1
+scaled_close a (pos c) xs some =
+    rw (sym (times_total a xs)) (total-near (λ x. fixed_bits x *ℤ a) c xs (omega (arith, ints, some)))
+scaled_close a (negsuc c) xs some = absurd (omega (arith, ints, some))
+
+-- the same of the results of calls
+pub scaled_sums_close : (a c : ℤ) (xs : List Fixed) (r sum s : ℤ) → pos 0 <ℤ c → r ≡ wrap 32 (total (scaled a c) xs)
+    → sum ≡ wrap 32 (total fixed_bits xs) → IsMulDiv 32 sum a c s → FitsBits 32 (total (scaled a c) xs)
+    → FitsBits 32 (total fixed_bits xs) → FitsBits 32 (rounded_mul_div (total fixed_bits xs) a c)
+    → 2 * unsigned_abs (r -ℤ s) ≤ length xs + 1
+scaled_sums_close a c xs r sum s some first second third fits_r fits_sum fits_s =
+    let kept_r : r ≡ total (scaled a c) xs = first ∙ wrap-fits 32 (total (scaled a c) xs) (lit< tt) fits_r in
+    let kept_sum : sum ≡ total fixed_bits xs = second ∙ wrap-fits 32 (total fixed_bits xs) (lit< tt) fits_sum in
+    let once = scaled_once 32 sum a c s some third in
+    let kept_s : s ≡ rounded_mul_div (total fixed_bits xs) a c =
+    once ∙ ap (λ n. wrap 32 (rounded_mul_div n a c)) kept_sum
+    ∙ wrap-fits 32 (rounded_mul_div (total fixed_bits xs) a c) (lit< tt) fits_s in
+    rw (kept_r, kept_s) (scaled_close a c xs some)

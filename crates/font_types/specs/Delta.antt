@@ -6,7 +6,7 @@ pub mod Laws
 use Rattle.std.specs.Prelude.{ℕ, zero, suc, List, fold, Option, Some, None, option_map, if◌then◌else◌, ℤ, pos, ◌+ℤ◌}
 use Rattle.std.specs.Prelude.{◌*ℤ◌}
 use Rattle.font_base.specs.Wrap.{fits_bits}
-use Rattle.font_fixed.specs.Fixed.{Fixed, fixed_bits}
+use Rattle.font_fixed.specs.{Fixed.Fixed, Fixed.fixed_bits, Operations.rounded_mul_div}
 
 -- the exact sum of an integer for each element of a list
 abbrev pub total : {T : Type 0} → (T → ℤ) → List T → ℤ
@@ -32,3 +32,7 @@ sum_in_range terms = if fits_bits 64 (exact_sum terms) then Some (exact_sum term
 -- a quantity in font units plus that sum, as a 16.16 raw value
 abbrev pub varied : ℤ → List (Fixed × ℤ) → Option ℤ
 varied base terms = option_map (λ sum. base *ℤ pos 65536 +ℤ sum) (sum_in_range terms)
+
+-- the raw value of a number that is scaled by a / c and rounded, for c other than 0
+abbrev pub scaled : ℤ → ℤ → Fixed → ℤ
+scaled a c x = rounded_mul_div (fixed_bits x) a c

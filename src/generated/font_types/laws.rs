@@ -3,11 +3,23 @@
 //! Laws, as contracts of functions.
 
 #[cfg(doc)]
+use crate::definitions::font_base::Wrap::FitsBits;
+#[cfg(doc)]
 use crate::definitions::font_base::Wrap::wrap;
 #[cfg(doc)]
 use crate::definitions::font_fixed::F48Dot16::f48dot16_bits;
 #[cfg(doc)]
+use crate::definitions::font_fixed::Fixed::fixed_bits;
+#[cfg(doc)]
+use crate::definitions::font_fixed::Operations::IsMulDiv;
+#[cfg(doc)]
+use crate::definitions::font_fixed::Operations::rounded_mul_div;
+#[cfg(doc)]
 use crate::definitions::font_types::Delta::exact_sum;
+#[cfg(doc)]
+use crate::definitions::font_types::Delta::scaled;
+#[cfg(doc)]
+use crate::definitions::font_types::Delta::total;
 #[cfg(doc)]
 use crate::definitions::font_types::DeltaSum::steps_of;
 
@@ -38,4 +50,51 @@ pub fn sum_in_parts(first: &[(Fixed, i32)], second: &[(Fixed, i32)]) -> (F48Dot1
     let mut sum = sum_of(first);
     sum += sum_of(second);
     (delta_sum(first) + delta_sum(second), sum)
+}
+
+/// Returns the sum of numbers that are each scaled by `mul_div(a, c)`, and their sum scaled once.
+/// If `c` is positive, and neither the sums nor the second result overflow, the two differ by at
+/// most `(n + 1) / 2` raw units, for `n` numbers.
+///
+/// <details><summary>Contract</summary>
+///
+/// ```text
+/// ensures first { pos 0 <ℤ fixed_bits c → fixed_bits result.0
+///     ≡ wrap 32 (total (scaled (fixed_bits a) (fixed_bits c)) numbers.now) }
+/// ensures second { IsMulDiv 32 (wrap 32 (total fixed_bits numbers.now)) (fixed_bits a)
+///     (fixed_bits c) (fixed_bits result.1) }
+/// ensures close { pos 0 <ℤ fixed_bits c
+///     → FitsBits 32 (total (scaled (fixed_bits a) (fixed_bits c)) numbers.now)
+///     → FitsBits 32 (total fixed_bits numbers.now)
+///     → FitsBits 32
+///     (rounded_mul_div (total fixed_bits numbers.now) (fixed_bits a) (fixed_bits c))
+///     → 2 * unsigned_abs (fixed_bits result.0 -ℤ fixed_bits result.1)
+///     ≤ length numbers.now + 1 }
+/// ```
+/// [`fixed_bits`], [`wrap`], [`total`], [`scaled`], [`IsMulDiv`], [`FitsBits`], [`rounded_mul_div`]
+/// </details>
+#[must_use]
+#[inline]
+pub fn scaled_in_parts(numbers: &[Fixed], a: Fixed, c: Fixed) -> (Fixed, Fixed) {
+    (scaled_sum(numbers, a, c), plain_sum(numbers).mul_div(a, c))
+}
+
+// Returns the sum of numbers that are each scaled.
+#[inline]
+fn scaled_sum(numbers: &[Fixed], a: Fixed, c: Fixed) -> Fixed {
+    let mut sum = Fixed::ZERO;
+    for number in numbers {
+        sum += number.mul_div(a, c);
+    }
+    sum
+}
+
+// Returns the sum of numbers.
+#[inline]
+fn plain_sum(numbers: &[Fixed]) -> Fixed {
+    let mut sum = Fixed::ZERO;
+    for number in numbers {
+        sum += *number;
+    }
+    sum
 }
