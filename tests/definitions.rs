@@ -641,6 +641,65 @@ fn matrices() {
     assert_eq!(laws::fixed_identity(a), (a, a));
 }
 
+#[test]
+fn checked_images_and_products() {
+    // Signed corners, and numbers near to half of the range: partial sums overflow, and come back.
+    let values =
+        [i32::MIN, -0x4E20_0001, -0x1_8000, -1, 0, 0x8000, 0x1_0000, 0x4E20_0000, i32::MAX];
+    let fixed = Fixed::from_bits;
+    let form = |p: i32, x: i32, q: i32, y: i32, d: i32| {
+        let [p, x, q, y, d] = [p, x, q, y, d].map(i128::from);
+        let sum = near(p * x, 1 << 16) + near(q * y, 1 << 16) + d;
+        i32::try_from(sum).ok().map(fixed)
+    };
+    let (mut kept, mut refused) = (0, 0);
+    for n in 0..values.len().pow(5) {
+        let [p, q, x, y, d] = [0, 1, 2, 3, 4].map(|place| values[n / 9usize.pow(place) % 9]);
+        let a = Matrix::from_elements([p, q, q, x, d, y].map(fixed));
+        let found = a.checked_transform(fixed(x), fixed(y));
+        let right = form(p, x, q, y, d).zip(form(q, x, x, y, y));
+        assert_eq!(found, right, "{p} {q} {x} {y} {d}");
+        if let Some(image) = found {
+            assert_eq!(image, a.transform(fixed(x), fixed(y)));
+        }
+        let b = Matrix::from_elements([x, d, y, p, q, d].map(fixed));
+        let right = [
+            form(p, x, q, d, 0),
+            form(q, x, x, d, 0),
+            form(p, y, q, p, 0),
+            form(q, y, x, p, 0),
+            form(p, q, q, d, d),
+            form(q, q, x, d, y),
+        ];
+        let right = right.iter().copied().collect::<Option<Vec<Fixed>>>();
+        let found = a.checked_mul(b);
+        assert_eq!(found.map(|ab| ab.elements().to_vec()), right, "{p} {q} {x} {y} {d}");
+        match found {
+            Some(product) => {
+                assert_eq!(product, a * b);
+                kept += 1;
+            }
+            None => refused += 1,
+        }
+        let (v, w) = (Point::new(fixed(p), fixed(q)), Point::new(fixed(x), fixed(y)));
+        let both = |x: Option<Fixed>, y: Option<Fixed>| x.zip(y).map(|(x, y)| Point::new(x, y));
+        let right = [
+            both(v.x.checked_add(w.x), v.y.checked_add(w.y)),
+            both(v.x.checked_sub(w.x), v.y.checked_sub(w.y)),
+        ];
+        assert_eq!([v.checked_add(w), v.checked_sub(w)], right);
+        let found = [laws::checked_composed(a, b, w), laws::checked_in_turn(a, b, w)];
+        let image = |m: Matrix<Fixed>, p: Point<Fixed>| m.checked_transform(p.x, p.y);
+        let in_turn = image(b, w).and_then(|(x, y)| a.checked_transform(x, y));
+        let composed = a.checked_mul(b).and_then(|ab| image(ab, w));
+        assert_eq!(found, [composed, in_turn].map(|p| p.map(|(x, y)| Point::new(x, y))));
+    }
+    assert!(kept > 100 && refused > 100, "{kept} {refused}");
+    const HALVED: Option<(Fixed, Fixed)> = Matrix::from_elements([Fixed::from_bits(0x8000); 6])
+        .checked_transform(Fixed::ONE, Fixed::ONE);
+    assert_eq!(HALVED.map(|(x, _)| x.to_bits()), Some(0x1_8000));
+}
+
 /// Compares constants from decimals with `decimal * 2^f / 10^places`, rounded half away from zero.
 macro_rules! constants {
     ($($Type:ident $f:literal)*) => {$({

@@ -2045,7 +2045,7 @@ pub mod font_geom {
     /// Matrices of `Fixed`, over their raw values (OpenType, data types: Fixed is 16.16), and the distance of a transformed
     /// point from its exact image.
     ///
-    /// In the order of `crates/font_geom/specs/FixedMatrix.antt`: [`matrix_bits`](mod@FixedMatrix::matrix_bits), [`point_bits`](mod@FixedMatrix::point_bits), [`rounded_product`](mod@FixedMatrix::rounded_product), [`wrapped_product`](mod@FixedMatrix::wrapped_product), [`wrapped_sum`](mod@FixedMatrix::wrapped_sum), [`fixed_product`](mod@FixedMatrix::fixed_product), [`ProductsAssociate`](mod@FixedMatrix::ProductsAssociate), [`FitsPoint`](mod@FixedMatrix::FitsPoint), [`FitsComposed`](mod@FixedMatrix::FitsComposed), [`FitsInTurn`](mod@FixedMatrix::FitsInTurn), [`exact_row`](mod@FixedMatrix::exact_row), [`IsCloseImage`](mod@FixedMatrix::IsCloseImage), [`exact_coordinate`](mod@FixedMatrix::exact_coordinate), [`exact_image`](mod@FixedMatrix::exact_image), [`IsWithin`](mod@FixedMatrix::IsWithin), [`IsCloseComposed`](mod@FixedMatrix::IsCloseComposed), [`IsCloseInTurn`](mod@FixedMatrix::IsCloseInTurn).
+    /// In the order of `crates/font_geom/specs/FixedMatrix.antt`: [`matrix_bits`](mod@FixedMatrix::matrix_bits), [`point_bits`](mod@FixedMatrix::point_bits), [`rounded_product`](mod@FixedMatrix::rounded_product), [`rounded_image`](mod@FixedMatrix::rounded_image), [`rounded_matrix_product`](mod@FixedMatrix::rounded_matrix_product), [`wrapped_product`](mod@FixedMatrix::wrapped_product), [`wrapped_sum`](mod@FixedMatrix::wrapped_sum), [`fixed_product`](mod@FixedMatrix::fixed_product), [`ProductsAssociate`](mod@FixedMatrix::ProductsAssociate), [`FitsPoint`](mod@FixedMatrix::FitsPoint), [`FitsComposed`](mod@FixedMatrix::FitsComposed), [`FitsInTurn`](mod@FixedMatrix::FitsInTurn), [`exact_row`](mod@FixedMatrix::exact_row), [`IsCloseImage`](mod@FixedMatrix::IsCloseImage), [`exact_coordinate`](mod@FixedMatrix::exact_coordinate), [`exact_image`](mod@FixedMatrix::exact_image), [`IsWithin`](mod@FixedMatrix::IsWithin), [`IsCloseComposed`](mod@FixedMatrix::IsCloseComposed), [`IsCloseInTurn`](mod@FixedMatrix::IsCloseInTurn).
     pub mod FixedMatrix {
         use crate::definitions::font_base::Wrap::FitsBits;
         use crate::definitions::font_base::Wrap::wrap;
@@ -2089,6 +2089,24 @@ pub mod font_geom {
         /// ```
         /// [`near`]
         pub mod rounded_product {}
+
+        /// the image of a point and the product of two matrices, as exact sums of rounded products: nothing is wrapped
+        ///
+        /// ```text
+        /// abbrev rounded_image : Matrix ℤ → Point ℤ → Point ℤ
+        /// rounded_image m p = image_of ◌+ℤ◌ rounded_product m p
+        /// ```
+        /// [`image_of`], [`rounded_product`]
+        pub mod rounded_image {}
+
+        /// the image of a point and the product of two matrices, as exact sums of rounded products: nothing is wrapped
+        ///
+        /// ```text
+        /// abbrev rounded_matrix_product : Matrix ℤ → Matrix ℤ → Matrix ℤ
+        /// rounded_matrix_product a b = matrix_product ◌+ℤ◌ rounded_product a b
+        /// ```
+        /// [`matrix_product`], [`rounded_product`]
+        pub mod rounded_matrix_product {}
 
         /// the results of `*` and `+`: the rounded product and the sum, each wrapped to 32 bits
         ///

@@ -37,7 +37,7 @@ pub const fn low_bits(n: i64) -> i32
 
 /// Multiplies two numbers with `f` fraction bits, rounding half away from zero.
 #[inline(always)]
-pub(crate) const fn nearest_product(x: i32, y: i32, f: u32) -> i64
+pub const fn nearest_product(x: i32, y: i32, f: u32) -> i64
     requires { (6 ≤ f) × (f ≤ 30) }
     ensures { result ≡ near (x *ℤ y) (2 ^ f) }
 {

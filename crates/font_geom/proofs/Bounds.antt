@@ -1,18 +1,18 @@
 -- The distance of a point from its exact image, if all entries and coordinates fit in 32 bits; and lemmas for callers
 -- on matrices whose entries are small enough for that.
 use Rattle.std.proofs.Common.{◌≡◌, ◌∙◌, ap, ℕ, ◌+◌, ◌*◌, ◌^◌, ◌<◌, ◌≤◌, ℤ, pos, ◌+ℤ◌, ◌-ℤ◌, ◌*ℤ◌, ◌≤ℤ◌, unsigned_abs}
-use Rattle.std.proofs.Common.{lit<, arith, ◌/◌, ◌&&◌, IsTrue, nat_lt, mul-le-mul_right, le_trans}
+use Rattle.std.proofs.Common.{lit<, arith, ◌/◌, ◌&&◌, IsTrue, nat_lt, mul-le-mul_right, le_trans, SFits, w32}
 use Rattle.std.proofs.Math.IntN.{*ℤ_comm, +ℤ_comm, +ℤ_assoc}
 use Rattle.std.proofs.{lemmas.Int.unsigned_abs-mul, lemmas.Int.ints, lemmas.Bool.Decides.nat_tests}
 use Rattle.font_base.specs.Wrap.Laws.{wrap-fits, wrap-add_left, wrap-add_right}
 use Rattle.font_base.specs.{Integers.sum-times, Integers.product-times, Wrap.FitsBits}
 use Rattle.font_decimal.proofs.Near.{near_is}
-use Rattle.font_fixed.proofs.Sums.{sums}
+use Rattle.font_fixed.proofs.{Calls.add_zero, Sums.sums}
 use Rattle.font_geom.specs.Matrix.{linear_form, affine_form, image_of, matrix_product, FitsEach}
-use Rattle.font_geom.specs.FixedMatrix.{rounded_product, wrapped_product, wrapped_sum, exact_coordinate, IsWithin}
-use Rattle.font_geom.specs.FixedMatrix.{exact_row, IsCloseImage, FitsComposed, FitsInTurn, IsCloseComposed}
-use Rattle.font_geom.specs.FixedMatrix.{IsCloseInTurn, FitsPoint, IsBounded, IsBoundedPoint, form_bound}
-use Rattle.font_geom.specs.FixedMatrix.{has_room_composed, has_room_in_turn}
+use Rattle.font_geom.specs.FixedMatrix.{rounded_image, rounded_matrix_product, rounded_product, wrapped_product}
+use Rattle.font_geom.specs.FixedMatrix.{wrapped_sum, exact_coordinate, IsWithin, exact_row, IsCloseImage, FitsComposed}
+use Rattle.font_geom.specs.FixedMatrix.{FitsInTurn, IsCloseComposed, IsCloseInTurn, FitsPoint, IsBounded}
+use Rattle.font_geom.specs.FixedMatrix.{IsBoundedPoint, form_bound, has_room_composed, has_room_in_turn}
 use Rattle.font_geom.specs.{declared.matrix.Matrix.Matrix, declared.point.Point.Point}
 
 -- a and b are at most e apart
@@ -127,11 +127,55 @@ pub in_turn_is_close : (a b : Matrix ℤ) (p moved : Point ℤ) → moved ≡ im
     → FitsInTurn a b p → IsCloseInTurn a b p moved
 in_turn_is_close a b p moved value fits = grind (arith, wrap-add_left, wrap-add_right, wrap-fits, in_turn_close)
 
--- ---- small entries
+-- ---- results of checked calls: the exact sums themselves
 product_bound : (u v : ℕ) (x y : ℤ) → unsigned_abs x ≤ u → unsigned_abs y ≤ v
     → unsigned_abs (rounded_product x y) ≤ u * v / 65536 + 1
 product_bound u v x y low high = grind (arith, near_is (x *ℤ y) 65536 (lit< tt), unsigned_abs-mul x y)
 
+pub rounded_product_small : (x y : ℤ) → SFits w32 x → SFits w32 y → unsigned_abs (rounded_product x y) ≤ 2 ^ 47
+rounded_product_small x y low high =
+    omega (arith, ints, product_bound (2 ^ 31) (2 ^ 31) x y (omega (arith, ints)) (omega (arith, ints)))
+
+pub affine_zero : (p x q y : ℤ) → affine_form ◌+ℤ◌ rounded_product p x q y (pos 0)
+    ≡ linear_form ◌+ℤ◌ rounded_product p x q y
+affine_zero p x q y = add_zero (linear_form ◌+ℤ◌ rounded_product p x q y)
+
+pub image_unwrapped : (m : Matrix ℤ) (p : Point ℤ) → FitsPoint (rounded_image m p)
+    → rounded_image m p ≡ image_of wrapped_sum wrapped_product m p
+image_unwrapped m p fits = grind (arith, wrap-add_left, wrap-add_right, wrap-fits)
+
+pub product_unwrapped : (a b : Matrix ℤ) → FitsEach (FitsBits 32) (rounded_matrix_product a b)
+    → rounded_matrix_product a b ≡ matrix_product wrapped_sum wrapped_product a b
+product_unwrapped a b fits = grind (arith, wrap-add_left, wrap-add_right, wrap-fits)
+
+-- the checked calls in sequence: m is a * b, and moved is the image of p under it; or first is b * p
+pub checked_composed_value : (a b m : Matrix ℤ) (p moved : Point ℤ) → m ≡ rounded_matrix_product a b
+    → moved ≡ rounded_image m p → FitsEach (FitsBits 32) (rounded_matrix_product a b) → FitsPoint (rounded_image m p)
+    → moved ≡ image_of wrapped_sum wrapped_product (matrix_product wrapped_sum wrapped_product a b) p
+checked_composed_value a b m p moved product image fits_product fits_image =
+    cc (product, image, product_unwrapped a b fits_product, image_unwrapped m p fits_image)
+
+pub checked_composed_is_close : (a b m : Matrix ℤ) (p moved : Point ℤ) → m ≡ rounded_matrix_product a b
+    → moved ≡ rounded_image m p → IsCloseComposed a b p moved
+checked_composed_is_close a b m p moved product image = rw (image, product) (record {
+  x = composed_close a.xx a.xy a.dx b p;
+  y = composed_close a.yx a.yy a.dy b p;
+})
+
+pub checked_in_turn_value : (a b : Matrix ℤ) (p first moved : Point ℤ) → first ≡ rounded_image b p
+    → moved ≡ rounded_image a first → FitsPoint (rounded_image b p) → FitsPoint (rounded_image a first)
+    → moved ≡ image_of wrapped_sum wrapped_product a (image_of wrapped_sum wrapped_product b p)
+checked_in_turn_value a b p first moved is_first image fits_first fits_image =
+    cc (is_first, image, image_unwrapped b p fits_first, image_unwrapped a first fits_image)
+
+pub checked_in_turn_is_close : (a b : Matrix ℤ) (p first moved : Point ℤ) → first ≡ rounded_image b p
+    → moved ≡ rounded_image a first → IsCloseInTurn a b p moved
+checked_in_turn_is_close a b p first moved is_first image = rw (image, is_first) (record {
+  x = in_turn_close a.xx a.xy a.dx b p;
+  y = in_turn_close a.yx a.yy a.dy b p;
+})
+
+-- ---- small entries
 linear_bound : (u v : ℕ) (p x q y : ℤ) → unsigned_abs p ≤ u → unsigned_abs x ≤ v → unsigned_abs q ≤ u
     → unsigned_abs y ≤ v
     → unsigned_abs (linear_form ◌+ℤ◌ rounded_product p x q y) ≤ form_bound u v

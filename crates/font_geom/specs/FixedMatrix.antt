@@ -27,6 +27,13 @@ point_bits p = record { x = fixed_bits p.x; y = fixed_bits p.y }
 abbrev pub rounded_product : ℤ → ℤ → ℤ
 rounded_product x y = near (x *ℤ y) 65536
 
+-- the image of a point and the product of two matrices, as exact sums of rounded products: nothing is wrapped
+abbrev pub rounded_image : Matrix ℤ → Point ℤ → Point ℤ
+rounded_image m p = image_of ◌+ℤ◌ rounded_product m p
+
+abbrev pub rounded_matrix_product : Matrix ℤ → Matrix ℤ → Matrix ℤ
+rounded_matrix_product a b = matrix_product ◌+ℤ◌ rounded_product a b
+
 -- the results of `*` and `+`: the rounded product and the sum, each wrapped to 32 bits
 abbrev pub wrapped_product : ℤ → ℤ → ℤ
 wrapped_product x y = wrap 32 (rounded_product x y)

@@ -1,6 +1,6 @@
 //! Laws of matrices, as contracts of functions that make the calls and return their results.
 
-ghost use Rattle.std.specs.Prelude.{◌≡◌, ◌+ℤ◌, pos};
+ghost use Rattle.std.specs.Prelude.{◌≡◌, ◌+ℤ◌, pos, ◌↔◌, IsSome, IfSome};
 ghost use Rattle.font_geom.specs.Matrix.{identity_matrix, image_of, matrix_product};
 ghost use Rattle.font_geom.specs.FixedMatrix.{matrix_bits, point_bits, wrapped_sum};
 ghost use Rattle.font_geom.specs.FixedMatrix.{wrapped_product, FitsComposed, FitsInTurn};
@@ -112,4 +112,34 @@ pub fn in_turn(a: Matrix<Fixed>, b: Matrix<Fixed>, p: Point<Fixed>) -> Point<Fix
         → IsCloseInTurn (matrix_bits a) (matrix_bits b) (point_bits p) (point_bits result) }
 {
     a * (b * p)
+}
+
+/// Returns `(a * b) * p` by the checked calls, or `None` on overflow, with the bound of
+/// [`composed`], which has no premise here.
+pub fn checked_composed(a: Matrix<Fixed>, b: Matrix<Fixed>, p: Point<Fixed>) -> Option<Point<Fixed>>
+    ensures variant { IsSome result
+        ↔ FitsComposed (matrix_bits a) (matrix_bits b) (point_bits p) }
+    ensures value { IfSome result (λ moved. point_bits moved
+        ≡ image_of wrapped_sum wrapped_product (matrix_product wrapped_sum wrapped_product
+        (matrix_bits a) (matrix_bits b)) (point_bits p)) }
+    ensures close { IfSome result (λ moved.
+        IsCloseComposed (matrix_bits a) (matrix_bits b) (point_bits p) (point_bits moved)) }
+{
+    let (x, y) = a.checked_mul(b)?.checked_transform(p.x, p.y)?;
+    Some(Point::new(x, y))
+}
+
+/// Returns `a * (b * p)` by the checked calls, or `None` on overflow, with the bound of
+/// [`in_turn`], which has no premise here.
+pub fn checked_in_turn(a: Matrix<Fixed>, b: Matrix<Fixed>, p: Point<Fixed>) -> Option<Point<Fixed>>
+    ensures variant { IsSome result ↔ FitsInTurn (matrix_bits a) (matrix_bits b) (point_bits p) }
+    ensures value { IfSome result (λ moved. point_bits moved
+        ≡ image_of wrapped_sum wrapped_product (matrix_bits a)
+        (image_of wrapped_sum wrapped_product (matrix_bits b) (point_bits p))) }
+    ensures close { IfSome result (λ moved.
+        IsCloseInTurn (matrix_bits a) (matrix_bits b) (point_bits p) (point_bits moved)) }
+{
+    let (x, y) = b.checked_transform(p.x, p.y)?;
+    let (x, y) = a.checked_transform(x, y)?;
+    Some(Point::new(x, y))
 }

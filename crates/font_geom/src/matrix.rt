@@ -1,13 +1,16 @@
 //! Affine matrices.
 
-ghost use Rattle.std.specs.Prelude.{◌≡◌, pos};
-ghost use Rattle.font_fixed.specs.Fixed.{fixed_of};
+ghost use Rattle.std.specs.Prelude.{◌≡◌, ◌↔◌, ◌^◌, ◌≤◌, pos, IsSome, IfSome, unsigned_abs, ◌+ℤ◌};
+ghost use Rattle.font_base.specs.Wrap.{FitsBits};
+ghost use Rattle.font_fixed.specs.Fixed.{fixed_bits, fixed_of};
 ghost use Rattle.font_geom.specs.Calls.{CanCallEach, CallsEach};
-ghost use Rattle.font_geom.specs.Matrix.{elements_of, identity_matrix, CanTransform, IsTransformed};
-ghost use Rattle.font_geom.specs.Matrix.{CanMultiply, IsProductOf};
+ghost use Rattle.font_geom.specs.FixedMatrix.{matrix_bits, point_bits, rounded_product};
+ghost use Rattle.font_geom.specs.FixedMatrix.{rounded_image, rounded_matrix_product, FitsPoint};
+ghost use Rattle.font_geom.specs.Matrix.{affine_form, FitsEach, elements_of, identity_matrix};
+ghost use Rattle.font_geom.specs.Matrix.{CanTransform, IsTransformed, CanMultiply, IsProductOf};
 
 use crate::Point;
-use font_fixed::Fixed;
+use font_fixed::{F48Dot16, Fixed, nearest_product};
 use std::ops::{Add, Mul, MulAssign};
 
 /// An affine transformation: a 2 by 2 matrix and a translation.
@@ -19,6 +22,10 @@ use std::ops::{Add, Mul, MulAssign};
 ///
 /// Transforms `(x, y)` to `(xx * x + xy * y + dx, yx * x + yy * y + dy)`. The product `a * b`
 /// applies `b` first, then `a`. For [`Fixed`], the translation is in the unit of the points.
+///
+/// Over [`Fixed`], each product is rounded half away from zero, and what does not fit in 32 bits
+/// wraps, in `*`, `*=` and `transform`. [`checked_transform`](Matrix::checked_transform) and
+/// [`checked_mul`](Matrix::checked_mul) return `None` instead.
 ///
 /// ```
 /// use font_types::{Fixed, Matrix, Point};
@@ -158,7 +165,8 @@ impl<T: MatrixElement> Matrix<T> {
         }
     }
 
-    /// Returns `(xx * x + xy * y + dx, yx * x + yy * y + dy)`, the image of the point `(x, y)`.
+    /// Returns `(xx * x + xy * y + dx, yx * x + yy * y + dy)`, the image of the point `(x, y)`, by the
+    /// operators of the elements: those of [`Fixed`] wrap on overflow.
     pub fn transform(&self, x: T, y: T) -> (T, T)
         requires { CanTransform T.can_mul T.mul_gives T.can_add T.add_gives self.now x y }
         ensures { IsTransformed T.mul_gives T.add_gives self.now x y result.0 result.1 }
@@ -168,6 +176,85 @@ impl<T: MatrixElement> Matrix<T> {
             self.yx * x + self.yy * y + self.dy,
         )
     }
+}
+
+impl Matrix<Fixed> {
+    /// Returns the image of the point `(x, y)`, as [`transform`](Self::transform) does, or `None` if
+    /// one of its coordinates overflows. Intermediate sums may overflow.
+    pub const fn checked_transform(&self, x: Fixed, y: Fixed) -> Option<(Fixed, Fixed)>
+        ensures variant { IsSome result ↔ FitsPoint
+            (rounded_image (matrix_bits self.now) (point_bits (record { x = x; y = y }))) }
+        ensures value { IfSome result (λ moved. point_bits (record { x = moved.0; y = moved.1 })
+            ≡ rounded_image (matrix_bits self.now) (point_bits (record { x = x; y = y }))) }
+    {
+        match (
+            checked_form(self.xx, x, self.xy, y, self.dx),
+            checked_form(self.yx, x, self.yy, y, self.dy),
+        ) {
+            (Some(x), Some(y)) => Some((x, y)),
+            _ => None,
+        }
+    }
+
+    /// Returns `self * other`, or `None` if one of its entries overflows. Intermediate sums may
+    /// overflow.
+    pub const fn checked_mul(self, other: Self) -> Option<Self>
+        ensures variant { IsSome result ↔ FitsEach (FitsBits 32)
+            (rounded_matrix_product (matrix_bits self) (matrix_bits other)) }
+        ensures value { IfSome result (λ product. matrix_bits product
+            ≡ rounded_matrix_product (matrix_bits self) (matrix_bits other)) }
+    {
+        let zero = Fixed::ZERO;
+        match (
+            checked_form(self.xx, other.xx, self.xy, other.yx, zero),
+            checked_form(self.yx, other.xx, self.yy, other.yx, zero),
+            checked_form(self.xx, other.xy, self.xy, other.yy, zero),
+            checked_form(self.yx, other.xy, self.yy, other.yy, zero),
+            checked_form(self.xx, other.dx, self.xy, other.dy, self.dx),
+            checked_form(self.yx, other.dx, self.yy, other.dy, self.dy),
+        ) {
+            (Some(xx), Some(yx), Some(xy), Some(yy), Some(dx), Some(dy)) => Some(Self {
+                xx,
+                yx,
+                xy,
+                yy,
+                dx,
+                dy,
+            }),
+            _ => None,
+        }
+    }
+}
+
+// Returns `p * x + q * y + d`, or `None` if it overflows.
+#[inline(always)]
+const fn checked_form(p: Fixed, x: Fixed, q: Fixed, y: Fixed, d: Fixed) -> Option<Fixed>
+    ensures variant { IsSome result ↔ FitsBits 32 (affine_form ◌+ℤ◌ rounded_product
+        (fixed_bits p) (fixed_bits x) (fixed_bits q) (fixed_bits y) (fixed_bits d)) }
+    ensures value { IfSome result (λ form. fixed_bits form ≡ affine_form ◌+ℤ◌ rounded_product
+        (fixed_bits p) (fixed_bits x) (fixed_bits q) (fixed_bits y) (fixed_bits d)) }
+{
+    F48Dot16::from_bits(exact_form(p, x, q, y, d)).checked_to_fixed()
+}
+
+// Returns the raw bits of `p * x + q * y + d`, which may not fit in 32 bits.
+#[inline(always)]
+#[tactic(auto, using(std::proofs::lemmas::Int::wraps))]
+const fn exact_form(p: Fixed, x: Fixed, q: Fixed, y: Fixed, d: Fixed) -> i64
+    ensures { result ≡ affine_form ◌+ℤ◌ rounded_product
+        (fixed_bits p) (fixed_bits x) (fixed_bits q) (fixed_bits y) (fixed_bits d) }
+{
+    exact_product(p, x) + exact_product(q, y) + d.to_bits() as i64
+}
+
+// Returns the raw bits of `x * y`, which may not fit in 32 bits.
+#[inline(always)]
+#[tactic(auto, using(crate::proofs::Bounds::rounded_product_small))]
+const fn exact_product(x: Fixed, y: Fixed) -> i64
+    ensures value { result ≡ rounded_product (fixed_bits x) (fixed_bits y) }
+    ensures bound { unsigned_abs result ≤ 2 ^ 47 }
+{
+    nearest_product(x.to_bits(), y.to_bits(), 16)
 }
 
 impl<T: MatrixElement> Default for Matrix<T> {

@@ -14,8 +14,8 @@ pub use font_decimal::laws::{printed_again, prints_in_order, reads_in_order};
 pub use font_fixed::laws::{f26dot6, fixed};
 use font_fixed::{F48Dot16, Fixed};
 pub use font_geom::laws::{
-    action, associative, composed, fixed_identity, identity_neutral, image, in_turn,
-    step_and_halves,
+    action, associative, checked_composed, checked_in_turn, composed, fixed_identity,
+    identity_neutral, image, in_turn, step_and_halves,
 };
 
 /// Returns the sum of two lists of terms, each summed apart, by `delta_sum` and by `DeltaSum`. Both

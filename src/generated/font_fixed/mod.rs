@@ -22,8 +22,8 @@ pub use fixed_i16::{F2Dot14, F4Dot12, F6Dot10, FixedI16};
 pub use fixed_i32::{F2Dot30, F26Dot6, Fixed, FixedI32, nearest_step, nearest_sum};
 pub use fixed_i64::{F48Dot16, FixedI64};
 pub use formats::Format;
-pub use products::{low_bits, mul_div, product};
-use products::{nearest_mul_div, nearest_product};
+use products::nearest_mul_div;
+pub use products::{low_bits, mul_div, nearest_product, product};
 pub use reading::{read_bits_16, read_bits_32, read_bits_64};
 pub use rounding::{
     fitting_16, floor_bits_16, floor_bits_32, floor_bits_64, round_bits_16, round_bits_32,

@@ -76,8 +76,9 @@ pub const fn low_bits(n: i64) -> i32 {
 /// ```
 /// [`near`]
 /// </details>
+#[must_use]
 #[inline(always)]
-pub(crate) const fn nearest_product(x: i32, y: i32, f: u32) -> i64 {
+pub const fn nearest_product(x: i32, y: i32, f: u32) -> i64 {
     rounded_shift(x as i64 * y as i64, f)
 }
 

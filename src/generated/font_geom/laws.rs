@@ -203,3 +203,57 @@ pub fn composed(a: Matrix<Fixed>, b: Matrix<Fixed>, p: Point<Fixed>) -> Point<Fi
 pub fn in_turn(a: Matrix<Fixed>, b: Matrix<Fixed>, p: Point<Fixed>) -> Point<Fixed> {
     a * (b * p)
 }
+
+/// Returns `(a * b) * p` by the checked calls, or `None` on overflow, with the bound of
+/// [`composed`], which has no premise here.
+///
+/// <details><summary>Contract</summary>
+///
+/// ```text
+/// ensures variant { IsSome result
+///     ↔ FitsComposed (matrix_bits a) (matrix_bits b) (point_bits p) }
+/// ensures value { IfSome result (λ moved. point_bits moved
+///     ≡ image_of wrapped_sum wrapped_product (matrix_product wrapped_sum wrapped_product
+///     (matrix_bits a) (matrix_bits b)) (point_bits p)) }
+/// ensures close { IfSome result (λ moved.
+///     IsCloseComposed (matrix_bits a) (matrix_bits b) (point_bits p) (point_bits moved)) }
+/// ```
+/// [`FitsComposed`], [`matrix_bits`], [`point_bits`], [`image_of`], [`wrapped_sum`], [`wrapped_product`], [`matrix_product`], [`IsCloseComposed`]
+/// </details>
+#[must_use]
+#[inline]
+pub fn checked_composed(
+    a: Matrix<Fixed>,
+    b: Matrix<Fixed>,
+    p: Point<Fixed>,
+) -> Option<Point<Fixed>> {
+    let (x, y) = a.checked_mul(b)?.checked_transform(p.x, p.y)?;
+    Some(Point::new(x, y))
+}
+
+/// Returns `a * (b * p)` by the checked calls, or `None` on overflow, with the bound of
+/// [`in_turn`], which has no premise here.
+///
+/// <details><summary>Contract</summary>
+///
+/// ```text
+/// ensures variant { IsSome result ↔ FitsInTurn (matrix_bits a) (matrix_bits b) (point_bits p) }
+/// ensures value { IfSome result (λ moved. point_bits moved
+///     ≡ image_of wrapped_sum wrapped_product (matrix_bits a)
+///     (image_of wrapped_sum wrapped_product (matrix_bits b) (point_bits p))) }
+/// ensures close { IfSome result (λ moved.
+///     IsCloseInTurn (matrix_bits a) (matrix_bits b) (point_bits p) (point_bits moved)) }
+/// ```
+/// [`FitsInTurn`], [`matrix_bits`], [`point_bits`], [`image_of`], [`wrapped_sum`], [`wrapped_product`], [`IsCloseInTurn`]
+/// </details>
+#[must_use]
+#[inline]
+pub fn checked_in_turn(
+    a: Matrix<Fixed>,
+    b: Matrix<Fixed>,
+    p: Point<Fixed>,
+) -> Option<Point<Fixed>> {
+    let (x, y) = b.checked_transform(p.x, p.y)?;
+    let (x, y) = a.checked_transform(x, y)?;
+    Some(Point::new(x, y))
+}

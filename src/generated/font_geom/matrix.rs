@@ -3,13 +3,27 @@
 //! Affine matrices.
 
 #[cfg(doc)]
+use crate::definitions::font_base::Wrap::FitsBits;
+#[cfg(doc)]
 use crate::definitions::font_geom::Calls::CallsEach;
 #[cfg(doc)]
 use crate::definitions::font_geom::Calls::CanCallEach;
 #[cfg(doc)]
+use crate::definitions::font_geom::FixedMatrix::FitsPoint;
+#[cfg(doc)]
+use crate::definitions::font_geom::FixedMatrix::matrix_bits;
+#[cfg(doc)]
+use crate::definitions::font_geom::FixedMatrix::point_bits;
+#[cfg(doc)]
+use crate::definitions::font_geom::FixedMatrix::rounded_image;
+#[cfg(doc)]
+use crate::definitions::font_geom::FixedMatrix::rounded_matrix_product;
+#[cfg(doc)]
 use crate::definitions::font_geom::Matrix::CanMultiply;
 #[cfg(doc)]
 use crate::definitions::font_geom::Matrix::CanTransform;
+#[cfg(doc)]
+use crate::definitions::font_geom::Matrix::FitsEach;
 #[cfg(doc)]
 use crate::definitions::font_geom::Matrix::IsProductOf;
 #[cfg(doc)]
@@ -19,7 +33,7 @@ use crate::definitions::font_geom::Matrix::elements_of;
 #[cfg(doc)]
 use crate::definitions::font_geom::Matrix::identity_matrix;
 
-use crate::font_fixed::Fixed;
+use crate::font_fixed::{F48Dot16, Fixed, nearest_product};
 use crate::font_geom::Point;
 use core::ops::{Add, Mul, MulAssign};
 
@@ -32,6 +46,10 @@ use core::ops::{Add, Mul, MulAssign};
 ///
 /// Transforms `(x, y)` to `(xx * x + xy * y + dx, yx * x + yy * y + dy)`. The product `a * b`
 /// applies `b` first, then `a`. For [`Fixed`], the translation is in the unit of the points.
+///
+/// Over [`Fixed`], each product is rounded half away from zero, and what does not fit in 32 bits
+/// wraps, in `*`, `*=` and `transform`. [`checked_transform`](Matrix::checked_transform) and
+/// [`checked_mul`](Matrix::checked_mul) return `None` instead.
 ///
 /// ```
 /// use font_types_proved::{Fixed, Matrix, Point};
@@ -184,7 +202,8 @@ impl<T: MatrixElement> Matrix<T> {
         Self { xx: T::ONE, yx: T::ZERO, xy: T::ZERO, yy: T::ONE, dx: T::ZERO, dy: T::ZERO }
     }
 
-    /// Returns `(xx * x + xy * y + dx, yx * x + yy * y + dy)`, the image of the point `(x, y)`.
+    /// Returns `(xx * x + xy * y + dx, yx * x + yy * y + dy)`, the image of the point `(x, y)`, by the
+    /// operators of the elements: those of [`Fixed`] wrap on overflow.
     ///
     /// <details><summary>Contract</summary>
     ///
@@ -199,6 +218,83 @@ impl<T: MatrixElement> Matrix<T> {
     pub fn transform(&self, x: T, y: T) -> (T, T) {
         (self.xx * x + self.xy * y + self.dx, self.yx * x + self.yy * y + self.dy)
     }
+}
+
+impl Matrix<Fixed> {
+    /// Returns the image of the point `(x, y)`, as [`transform`](Self::transform) does, or `None` if
+    /// one of its coordinates overflows. Intermediate sums may overflow.
+    ///
+    /// <details><summary>Contract</summary>
+    ///
+    /// ```text
+    /// ensures variant { IsSome result ↔ FitsPoint
+    ///     (rounded_image (matrix_bits self.now) (point_bits (record { x = x; y = y }))) }
+    /// ensures value { IfSome result (λ moved. point_bits (record { x = moved.0; y = moved.1 })
+    ///     ≡ rounded_image (matrix_bits self.now) (point_bits (record { x = x; y = y }))) }
+    /// ```
+    /// [`FitsPoint`], [`rounded_image`], [`matrix_bits`], [`point_bits`]
+    /// </details>
+    #[must_use]
+    #[inline]
+    pub const fn checked_transform(&self, x: Fixed, y: Fixed) -> Option<(Fixed, Fixed)> {
+        match (
+            checked_form(self.xx, x, self.xy, y, self.dx),
+            checked_form(self.yx, x, self.yy, y, self.dy),
+        ) {
+            (Some(x), Some(y)) => Some((x, y)),
+            _ => None,
+        }
+    }
+
+    /// Returns `self * other`, or `None` if one of its entries overflows. Intermediate sums may
+    /// overflow.
+    ///
+    /// <details><summary>Contract</summary>
+    ///
+    /// ```text
+    /// ensures variant { IsSome result ↔ FitsEach (FitsBits 32)
+    ///     (rounded_matrix_product (matrix_bits self) (matrix_bits other)) }
+    /// ensures value { IfSome result (λ product. matrix_bits product
+    ///     ≡ rounded_matrix_product (matrix_bits self) (matrix_bits other)) }
+    /// ```
+    /// [`FitsEach`], [`FitsBits`], [`rounded_matrix_product`], [`matrix_bits`]
+    /// </details>
+    #[must_use]
+    #[inline]
+    pub const fn checked_mul(self, other: Self) -> Option<Self> {
+        let zero = Fixed::ZERO;
+        match (
+            checked_form(self.xx, other.xx, self.xy, other.yx, zero),
+            checked_form(self.yx, other.xx, self.yy, other.yx, zero),
+            checked_form(self.xx, other.xy, self.xy, other.yy, zero),
+            checked_form(self.yx, other.xy, self.yy, other.yy, zero),
+            checked_form(self.xx, other.dx, self.xy, other.dy, self.dx),
+            checked_form(self.yx, other.dx, self.yy, other.dy, self.dy),
+        ) {
+            (Some(xx), Some(yx), Some(xy), Some(yy), Some(dx), Some(dy)) => {
+                Some(Self { xx, yx, xy, yy, dx, dy })
+            }
+            _ => None,
+        }
+    }
+}
+
+// Returns `p * x + q * y + d`, or `None` if it overflows.
+#[inline(always)]
+const fn checked_form(p: Fixed, x: Fixed, q: Fixed, y: Fixed, d: Fixed) -> Option<Fixed> {
+    F48Dot16::from_bits(exact_form(p, x, q, y, d)).checked_to_fixed()
+}
+
+// Returns the raw bits of `p * x + q * y + d`, which may not fit in 32 bits.
+#[inline(always)]
+const fn exact_form(p: Fixed, x: Fixed, q: Fixed, y: Fixed, d: Fixed) -> i64 {
+    exact_product(p, x) + exact_product(q, y) + d.to_bits() as i64
+}
+
+// Returns the raw bits of `x * y`, which may not fit in 32 bits.
+#[inline(always)]
+const fn exact_product(x: Fixed, y: Fixed) -> i64 {
+    nearest_product(x.to_bits(), y.to_bits(), 16)
 }
 
 /// <details><summary>Contract</summary>

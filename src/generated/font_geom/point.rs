@@ -3,13 +3,23 @@
 //! Two-dimensional points.
 
 #[cfg(doc)]
+use crate::definitions::font_base::Wrap::FitsBits;
+#[cfg(doc)]
+use crate::definitions::font_fixed::FixedI32::bits_of;
+#[cfg(doc)]
 use crate::definitions::font_geom::Calls::CallsEach;
 #[cfg(doc)]
 use crate::definitions::font_geom::Calls::CanCallEach;
 
+use crate::font_fixed::FixedI32;
 use core::ops::{Add, AddAssign, Div, DivAssign, Mul, MulAssign, Neg, Sub, SubAssign};
 
 /// A two-dimensional point.
+///
+/// Each operator applies that of the coordinates. So over fixed-point numbers a sum wraps on
+/// overflow, and a product or a quotient is rounded and wraps; `checked_add` and `checked_sub` return
+/// `None` instead. Over std's integers an overflow panics in a debug build and wraps in a release
+/// build, and a division by zero panics.
 ///
 /// ```
 /// use font_types_proved::Point;
@@ -73,6 +83,52 @@ impl<T> Point<T> {
     #[inline(always)]
     pub fn map<U, F: FnMut(T) -> U>(self, mut f: F) -> Point<U> {
         Point { x: f(self.x), y: f(self.y) }
+    }
+}
+
+impl<const F: u32> Point<FixedI32<F>> {
+    /// Adds coordinate by coordinate, or returns `None` if one overflows.
+    ///
+    /// <details><summary>Contract</summary>
+    ///
+    /// ```text
+    /// ensures variant { IsSome result ↔ (FitsBits 32 (bits_of self.entry.x +ℤ bits_of other.entry.x)
+    ///     × FitsBits 32 (bits_of self.entry.y +ℤ bits_of other.entry.y)) }
+    /// ensures value { IfSome result (λ sum.
+    ///     (bits_of sum.x ≡ (bits_of self.entry.x +ℤ bits_of other.entry.x))
+    ///     × (bits_of sum.y ≡ (bits_of self.entry.y +ℤ bits_of other.entry.y))) }
+    /// ```
+    /// [`FitsBits`], [`bits_of`]
+    /// </details>
+    #[must_use]
+    #[inline]
+    pub const fn checked_add(self, other: Self) -> Option<Self> {
+        match (self.x.checked_add(other.x), self.y.checked_add(other.y)) {
+            (Some(x), Some(y)) => Some(Self::new(x, y)),
+            _ => None,
+        }
+    }
+
+    /// Subtracts coordinate by coordinate, or returns `None` if one overflows.
+    ///
+    /// <details><summary>Contract</summary>
+    ///
+    /// ```text
+    /// ensures variant { IsSome result ↔ (FitsBits 32 (bits_of self.entry.x -ℤ bits_of other.entry.x)
+    ///     × FitsBits 32 (bits_of self.entry.y -ℤ bits_of other.entry.y)) }
+    /// ensures value { IfSome result (λ rest.
+    ///     (bits_of rest.x ≡ (bits_of self.entry.x -ℤ bits_of other.entry.x))
+    ///     × (bits_of rest.y ≡ (bits_of self.entry.y -ℤ bits_of other.entry.y))) }
+    /// ```
+    /// [`FitsBits`], [`bits_of`]
+    /// </details>
+    #[must_use]
+    #[inline]
+    pub const fn checked_sub(self, other: Self) -> Option<Self> {
+        match (self.x.checked_sub(other.x), self.y.checked_sub(other.y)) {
+            (Some(x), Some(y)) => Some(Self::new(x, y)),
+            _ => None,
+        }
     }
 }
 

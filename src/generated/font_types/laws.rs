@@ -27,8 +27,8 @@ pub use crate::font_decimal::laws::{printed_again, prints_in_order, reads_in_ord
 pub use crate::font_fixed::laws::{f26dot6, fixed};
 use crate::font_fixed::{F48Dot16, Fixed};
 pub use crate::font_geom::laws::{
-    action, associative, composed, fixed_identity, identity_neutral, image, in_turn,
-    step_and_halves,
+    action, associative, checked_composed, checked_in_turn, composed, fixed_identity,
+    identity_neutral, image, in_turn, step_and_halves,
 };
 use crate::font_types::delta::sum_of;
 use crate::font_types::{DeltaSum, delta_sum};

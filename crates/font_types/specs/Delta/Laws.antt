@@ -3,8 +3,8 @@
 use Rattle.std.proofs.Common.{◌≡◌, ◌∙◌, ℕ, ◌+◌, List, [], ◌∷◌, ◌++◌, fold, sum_by, ℤ, pos, ◌+ℤ◌, ◌-ℤ◌, arith, sym, ap}
 use Rattle.std.proofs.Common.{◌*◌, ◌<◌, ◌≤◌, length, ◌*ℤ◌, unsigned_abs}
 use Rattle.std.proofs.Math.Nat.{add-mul, mul_assoc, suc-mul, le_of_mul-le-mul_right}
-use Rattle.std.proofs.{lemmas.Int.ints, lemmas.List.Sorted.sum_by-IsPermutation}
-use Rattle.std.proofs.{lemmas.Int.unsigned_abs-mul, lemmas.List.Sums.fold-append, lemmas.List.Sums.sum_by-cons}
+use Rattle.std.proofs.{lemmas.Int.ints, lemmas.List.Sorted.sum_by-IsPermutation, lemmas.Int.unsigned_abs-mul}
+use Rattle.std.proofs.{lemmas.List.Sums.fold-append, lemmas.List.Sums.sum_by-cons}
 use Rattle.std.specs.List.Sorted.{IsPermutation}
 use borrow.Author.Differences.{up, down}
 use Rattle.font_base.specs.Integers.{sum-times}
