@@ -16,6 +16,7 @@ use font_types_proved::{F2Dot14, Fixed, GlyphId16, Scalar, Tag, UfWord};
 use font_variations_proved::advances::{store_and_set, varied_by};
 use font_variations_proved::evaluator::{Setting, SettingError, VariationAxisRecord, segment_map};
 use font_variations_proved::evaluator::{final_coordinate, normalize, read_axis, read_setting};
+use font_variations_proved::instances::{StoreInstance, region_count};
 
 /// A table, which must be of this major version, if the font has it.
 fn of_version<'a>(
@@ -95,6 +96,18 @@ pub fn advance(
     }
 }
 
+/// The advances of all glyphs at these coordinates, where `HVAR` has them: the scalar of each region
+/// is computed once.
+pub fn advances(font: &Font<'_>, coordinates: &[F2Dot14]) -> Option<Vec<Option<UfWord>>> {
+    let hvar = font.table(b"HVAR")?;
+    let glyphs = || (0..font.glyph_count().unwrap_or(0)).map(GlyphId16::new);
+    let (store, _) = glyphs().find_map(|glyph| store_and_set(hvar, glyph))?;
+    let mut scalars = vec![Fixed::ZERO; region_count(store)?.into()];
+    let instance = StoreInstance::new(store, coordinates, &mut scalars)?;
+    let varied = |glyph| instance.varied(font.advance(glyph)?, store_and_set(hvar, glyph)?.1);
+    Some(glyphs().map(varied).collect())
+}
+
 /// The setting that a word is, of an axis that the font has.
 fn setting(word: &str, axes: &[VariationAxisRecord]) -> Result<Setting, String> {
     let setting = read_setting(word).map_err(|error| match error {
@@ -128,6 +141,13 @@ fn main() -> Result<(), Box<dyn std::error::Error>> {
         let (tag, min, max) = (axis.axis_tag, axis.min_value, axis.max_value);
         println!("{tag}: {value}, from {min} to {max}");
         coordinates.push(normalized(&font, n, axis, value)?);
+    }
+    if text == "all" {
+        for (glyph, advance) in advances(&font, &coordinates).ok_or("no `HVAR`")?.iter().enumerate()
+        {
+            println!("glyph {glyph}: {}", advance.ok_or("no advance by `HVAR`")?);
+        }
+        return Ok(());
     }
     for character in text.chars() {
         let glyph = glyph(&font, character)?;

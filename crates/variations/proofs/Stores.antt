@@ -1,12 +1,14 @@
 -- Products along axes and sums of columns: none, and one more; and how far they are off the exact ones.
 use Rattle.std.proofs.Common.{◌≡◌, refl, lit<, ℕ, zero, suc, ◌+◌, ◌-◌, ◌*◌, ℤ, pos, add-one, List, ◌+ℤ◌, ◌*ℤ◌}
-use Rattle.std.proofs.Common.{unsigned_abs, arith, ◌≤◌, ◌<◌, ◌^◌, ◌≤ℤ◌}
-use Rattle.std.proofs.{Math.Nat.mul-add, Math.Nat.zero-add, lemmas.Int.ints, lemmas.Grind.common_steps}
+use Rattle.std.proofs.Common.{unsigned_abs, arith, ◌≤◌, ◌<◌, ◌^◌, ◌≤ℤ◌, length, take, get_or}
+use Rattle.std.proofs.Math.Nat.{mul-add, zero-add}
+use Rattle.std.proofs.{lemmas.Int.ints, lemmas.Grind.common_steps, lemmas.List.get_or-take}
 use Rattle.font_types.specs.{Operations.IsProduct, F2Dot14.F2Dot14, Fixed.fixed_bits, Fixed.Fixed, Wrap.FitsBits}
 use Rattle.variations.specs.Variations.{IsScalarOf, IsScalarAlong, IsNearScalar, exact_scalar, IsOffBy, times, whole}
 use Rattle.variations.specs.Variations.{IsSumThrough, IsTerm, IsTermProduct, IsSetSum, IsNearSetSum, IsNearAdvance}
 use Rattle.variations.specs.Variations.{exact_delta, sum_halves, sum_of_magnitudes, region_bytes, region_index}
-use Rattle.variations.specs.Variations.{region_index_count, axis_count, delta_of, moved, exact_region_scalar}
+use Rattle.variations.specs.Variations.{region_index_count, axis_count, delta_of, moved, exact_region_scalar, HasRegion}
+use Rattle.variations.specs.Variations.{region_offset, delta_place, column_place, AreScalars, IsRegionScalar}
 use Rattle.variations.proofs.Fractions.{IsPartOff, off_by, axis_off, next_axis_off, first_axis_off, plus_off}
 use Rattle.variations.proofs.Fractions.{scaled_off, whole_off, rounded_off}
 
@@ -131,3 +133,42 @@ advance_is_near regions subtable coordinates set advance sum varied is_sum is =
     rw is (rw (zero-add halves) at (rounded_off _ _ _ off))
 
 pub ruleset sum_rules = (no_column, one_more_term, term_fits, term_small)
+
+-- ---- regions before a region, and rows
+
+region_before : (axes r k : ℕ) → k ≤ r → region_offset axes k ≤ region_offset axes r
+region_before axes r k low = grind (arith, common_steps)
+
+pub region_at_most : (regions : List ℕ) (r k : ℕ) → k ≤ r → HasRegion regions r → HasRegion regions k
+region_at_most regions r k low has =
+    let before = region_before (axis_count regions) r k low in
+    record { count = has.count; within = omega (arith, low, has.within); bytes = omega (arith, before, has.bytes) }
+
+below_last : (regions : List ℕ) (r n : ℕ) → HasRegion regions r → ¬ HasRegion regions n → r < n
+below_last regions r n has last =
+    let no : ¬ (n ≤ r) = λ low. last (region_at_most regions r n low has) in
+    omega (arith, no)
+
+pub are_scalars : (regions : List ℕ) (coordinates : List F2Dot14) (n m : ℕ) (scalars : List Fixed) → m ≡ n
+    → n ≤ length scalars
+    → ((k : ℕ) (d : Fixed) → k < n → IsRegionScalar regions k coordinates (fixed_bits (get_or scalars k d)))
+    → ((k : ℕ) → k < n → HasRegion regions k)
+    → ((k : ℕ) (d : Fixed) → k < n → pos 0 ≤ℤ fixed_bits (get_or scalars k d))
+    → ((k : ℕ) (d : Fixed) → k < n → fixed_bits (get_or scalars k d) ≤ℤ pos 65536)
+    → ¬ HasRegion regions n → AreScalars regions coordinates (take m scalars)
+are_scalars regions coordinates n m scalars is room each there low high last =
+    let len : length (take n scalars) ≡ n = grind (arith, common_steps, room) in
+    let short : (r : ℕ) → r < length (take n scalars) → r < n = λ r within. omega (arith, len, within) in
+    rw is (record {
+      each = λ r d within. rw (get_or-take n scalars r d (short r within)) (each r d (short r within));
+      are_there = λ r within. there r (short r within);
+      all = λ r has. omega (arith, len, below_last regions r n has last);
+      low = λ r d within. rw (get_or-take n scalars r d (short r within)) (low r d (short r within));
+      high = λ r d within. rw (get_or-take n scalars r d (short r within)) (high r d (short r within));
+    })
+
+pub place_in_row : (words count set column : ℕ)
+    → delta_place words count set column ≡ delta_place words count set 0 + column_place words column
+place_in_row words count set column = grind (arith, common_steps)
+
+pub ruleset row_rules = (region_at_most, place_in_row)

@@ -1,3 +1,4 @@
 pub mod Advances
 pub mod Evaluator
+pub mod Instances
 pub mod Variations

@@ -78,6 +78,16 @@ abbrev pub IsRegionScalar : List ℕ → ℕ → List F2Dot14 → ℤ → Type 0
 IsRegionScalar regions region coordinates scalar =
     IsScalarOf (region_bytes regions region) coordinates (axis_count regions) scalar
 
+-- the scalars of all regions of a list, in order
+pub record AreScalars (regions : List ℕ) (coordinates : List F2Dot14) (scalars : List Fixed) : Type 0 where
+  pub each : (region : ℕ) (d : Fixed) → region < length scalars
+      → IsRegionScalar regions region coordinates (fixed_bits (slice_index_or scalars region d))
+  pub are_there : (region : ℕ) → region < length scalars → HasRegion regions region
+  pub all : (region : ℕ) → HasRegion regions region → region < length scalars
+  pub low : (region : ℕ) (d : Fixed) → region < length scalars → pos 0 ≤ℤ fixed_bits (slice_index_or scalars region d)
+  pub high : (region : ℕ) (d : Fixed) → region < length scalars
+      → fixed_bits (slice_index_or scalars region d) ≤ℤ pos 65536
+
 -- ---- exact values: what the same algorithm gives in fractions, with no rounding
 
 pub record Fraction : Type 0 where
@@ -175,6 +185,21 @@ column_width subtable column = delta_width (word_delta_count subtable) column
 
 abbrev pub delta_offset : List ℕ → ℕ → ℕ → ℕ
 delta_offset subtable set column = delta_place (word_delta_count subtable) (region_index_count subtable) set column
+
+-- where the delta of a column is in the row of a set
+abbrev pub column_place : ℕ → ℕ → ℕ
+column_place words column = narrow_width words * (column + min column (words % 0x8000))
+
+-- the bytes from the first delta of a set on
+abbrev pub row_bytes : List ℕ → ℕ → List ℕ
+row_bytes subtable set = drop (delta_offset subtable set 0) subtable
+
+-- the set is in the subtable, which has at most as many wide columns as columns, and does not end before the set begins
+pub record HasRow (subtable : List ℕ) (set : ℕ) : Type 0 where
+  pub header : 6 ≤ length subtable
+  pub wide : word_delta_count subtable % 0x8000 ≤ region_index_count subtable
+  pub is_set : set < item_count subtable
+  pub bytes : delta_offset subtable set 0 ≤ length subtable
 
 -- the set and the column are in the subtable, which has at most as many wide columns as columns, and it does not end
 -- before the delta does

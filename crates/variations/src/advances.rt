@@ -13,7 +13,7 @@ use crate::maps::{DeltaSetIndex, is_no_variation, read_delta_set_index};
 use font_types::{F2Dot14, GlyphId16, Scalar, UfWord};
 
 // Returns the bytes from where an offset points, or `None` if it is null or points past the end.
-fn at_offset(table: &[u8], place: usize) -> Option<&[u8]>
+pub(crate) fn at_offset(table: &[u8], place: usize) -> Option<&[u8]>
     ensures variant { IsSome result ↔ HasTarget table.now place }
     ensures value { IfSome result (λ target. target.now ≡ target_of table.now place) }
 {
@@ -55,7 +55,7 @@ pub fn store_and_set(hvar: &[u8], glyph: GlyphId16) -> Option<(&[u8], DeltaSetIn
 }
 
 // Finds the list of regions, the subtable of a delta set, and the index of the set in it.
-fn data_of(store: &[u8], set: DeltaSetIndex) -> Option<(&[u8], &[u8], u16)>
+pub(crate) fn data_of(store: &[u8], set: DeltaSetIndex) -> Option<(&[u8], &[u8], u16)>
     ensures variant { IsSome result ↔ HasData store.now set.outer set.inner }
     ensures regions { IfSome result (λ found. found.0.now ≡ regions_of store.now) }
     ensures subtable { IfSome result (λ found. found.1.now ≡ subtable_of store.now set.outer) }

@@ -6,8 +6,10 @@ ghost use Rattle.font_types.specs.Bytes.{signed_numeral};
 ghost use Rattle.font_types.specs.Fixed;
 ghost use Rattle.font_types.specs.{Fixed.fixed_bits, F48Dot16.f48dot16_bits, FWord.ufword_number};
 ghost use Rattle.variations.specs.Variations.{narrow_width, delta_width, delta_place, HasDelta};
-ghost use Rattle.variations.specs.Variations.{delta_of, HasTerm, IsTerm, IsSetSum, HasSet};
-ghost use Rattle.variations.specs.Variations.{IsVaried, HasNoVaried, IsNearSetSum, IsNearAdvance};
+ghost use Rattle.variations.specs.Variations.{HasRow, row_bytes, column_place, word_delta_count};
+ghost use Rattle.variations.specs.Variations.{region_index_count, region_index, delta_of, HasTerm};
+ghost use Rattle.variations.specs.Variations.{IsTerm, IsSetSum, HasSet, IsVaried, HasNoVaried};
+ghost use Rattle.variations.specs.Variations.{IsNearSetSum, IsNearAdvance};
 
 use crate::regions::region_scalar;
 use font_types::{F2Dot14, F48Dot16, Fixed, Scalar, UfWord};
@@ -67,6 +69,60 @@ fn offset_of(words: u16, count: u16, set: u16, column: u16) -> u64
     6 + 2 * u64::from(count) + narrow_width_of(words) as u64 * units
 }
 
+// Returns the bytes of a subtable from the first delta of a set on.
+pub(crate) fn row_of(subtable: &[u8], set: u16) -> Option<&[u8]>
+    ensures variant { IsSome result ↔ HasRow subtable.now set }
+    ensures value { IfSome result (λ row. row.now ≡ row_bytes subtable.now set) }
+{
+    let (words, count) = (u16::read_at(subtable, 2)?, u16::read_at(subtable, 4)?);
+    if set >= u16::read_at(subtable, 0)? || words & WORD_DELTA_COUNT_MASK > count {
+        return None;
+    }
+    subtable.get(usize::try_from(offset_of(words, count, set, 0)).ok()?..)
+}
+
+// Reads the delta of a column from the row of a set, by the count of wide columns.
+fn delta_in(row: &[u8], words: u16, column: u16) -> Option<i32>
+    ensures variant { IsSome result
+        ↔ (column_place words column + delta_width words column ≤ length row.now) }
+    ensures value { IfSome result (λ delta. delta ≡ signed_numeral (delta_width words column)
+        (take (delta_width words column) (drop (column_place words column) row.now))) }
+    ensures size { IfSome result (λ delta. unsigned_abs delta ≤ 2 ^ 31) }
+{
+    let (wide, at) = (
+        usize::from(words & WORD_DELTA_COUNT_MASK),
+        usize::from(column),
+    );
+    let narrow = narrow_width_of(words);
+    if at < wide {
+        read_signed(row, 2 * narrow * at, 2 * narrow)
+    } else {
+        read_signed(row, narrow * (at + wide), narrow)
+    }
+}
+
+// Reads the region and the delta of a column, by the row of its set. `_set` is for the contract.
+#[tactic(auto, using(font_types::proofs::Callers::calls, crate::proofs::Stores::row_rules))]
+pub(crate) fn column_in(
+    subtable: &[u8],
+    row: &[u8],
+    words: u16,
+    _set: u16,
+    column: u16,
+) -> Option<(u16, i32)>
+    requires set { HasRow subtable.now _set }
+    requires row { row.now ≡ row_bytes subtable.now _set }
+    requires words { words ≡ word_delta_count subtable.now }
+    requires column { column < region_index_count subtable.now }
+    ensures variant { IsSome result ↔ HasDelta subtable.now _set column }
+    ensures region { IfSome result (λ read. read.0 ≡ region_index subtable.now column) }
+    ensures delta { IfSome result (λ read. read.1 ≡ delta_of subtable.now _set column) }
+    ensures size { IfSome result (λ read. unsigned_abs read.1 ≤ 2 ^ 31) }
+{
+    let region = u16::read_at(subtable, 6 + 2 * usize::from(column))?;
+    Some((region, delta_in(row, words, column)?))
+}
+
 // Reads a signed integer of one, two or four bytes.
 fn read_signed(bytes: &[u8], offset: usize, width: usize) -> Option<i32>
     requires { (width ≡ 1) ⊎ ((width ≡ 2) ⊎ (width ≡ 4)) }
@@ -106,6 +162,31 @@ pub fn column_term(
     Some((region_scalar(regions, region, coordinates)?, delta))
 }
 
+// Returns `column_term`, by the row of the set.
+fn term_in(
+    regions: &[u8],
+    subtable: &[u8],
+    row: &[u8],
+    words: u16,
+    set: u16,
+    column: u16,
+    coordinates: &[F2Dot14],
+) -> Option<(Fixed, i32)>
+    requires set { HasRow subtable.now set }
+    requires row { row.now ≡ row_bytes subtable.now set }
+    requires words { words ≡ word_delta_count subtable.now }
+    requires column { column < region_index_count subtable.now }
+    ensures variant { IsSome result ↔ HasTerm regions.now subtable.now set column }
+    ensures value { IfSome result (λ term.
+        IsTerm regions.now subtable.now coordinates.now set column term) }
+    ensures low { IfSome result (λ term. pos 0 ≤ℤ fixed_bits term.0) }
+    ensures high { IfSome result (λ term. fixed_bits term.0 ≤ℤ fixed_bits Fixed.ONE) }
+    ensures size { IfSome result (λ term. unsigned_abs term.1 ≤ 2 ^ 31) }
+{
+    let (region, delta) = column_in(subtable, row, words, set, column)?;
+    Some((region_scalar(regions, region, coordinates)?, delta))
+}
+
 /// Returns the exact sum of the deltas of a set, each times the scalar of its region, or `None` if
 /// the subtable does not have the set or the list not all its regions.
 #[must_use]
@@ -122,13 +203,17 @@ pub fn set_sum(
     ensures near { IfSome result (λ sum.
         IsNearSetSum regions.now subtable.now coordinates.now set (f48dot16_bits sum)) }
 {
-    let count = u16::read_at(subtable, 4)?;
+    let (words, count) = (u16::read_at(subtable, 2)?, u16::read_at(subtable, 4)?);
     if set >= u16::read_at(subtable, 0)? {
         return None;
     }
+    if count == 0 {
+        return Some(F48Dot16::ZERO);
+    }
+    let row = row_of(subtable, set)?;
     let mut sum = F48Dot16::ZERO;
     for column in 0..count {
-        let (scalar, delta) = column_term(regions, subtable, set, column, coordinates)?;
+        let (scalar, delta) = term_in(regions, subtable, row, words, set, column, coordinates)?;
         sum += scalar.mul_i32(delta);
     }
     Some(sum)

@@ -1,7 +1,7 @@
 //! Variation regions: the scalar of each axis, and of a region.
 
 ghost use Rattle.std.specs.Prelude.{◌≡◌, ◌≢◌, ◌↔◌, ◌≤◌, ◌+◌, ◌*◌, pos, ◌≤ℤ◌, ◌<ℤ◌, ◌-ℤ◌, ◌*ℤ◌};
-ghost use Rattle.std.specs.Prelude.{IsTrue, IsSome, IfSome, length};
+ghost use Rattle.std.specs.Prelude.{IsTrue, IsSome, IfSome, length, IfNone, take};
 ghost use Rattle.font_types.specs.Operations.{IsProduct, IsQuotient};
 ghost use Rattle.font_types.specs.Fixed;
 ghost use Rattle.font_types.specs.{Fixed.fixed_bits, F2Dot14.f2dot14_bits};
@@ -9,6 +9,7 @@ ghost use Rattle.variations.specs.Variations.{IsIgnored, IsOffRegion, IsAxisScal
 ghost use Rattle.variations.specs.Variations.{axis_count, region_bytes, stored_bits};
 ghost use Rattle.variations.specs.Variations.{coordinate_bits, IsScalarAlong, IsScalarOf};
 ghost use Rattle.variations.specs.Variations.{IsNearScalar, IsRegionScalar, IsNearRegionScalar};
+ghost use Rattle.variations.specs.Variations.{AreScalars};
 
 use crate::evaluator::ratio;
 use font_types::{F2Dot14, Fixed, Scalar};
@@ -182,4 +183,32 @@ pub fn region_scalar(regions: &[u8], region: u16, coordinates: &[F2Dot14]) -> Op
     let region = find_region(regions, region)?;
     let axes = u16::read_at(regions, 0)?;
     Some(product_of_scalars(region, axes, coordinates))
+}
+
+/// Writes the scalar of each region of a list, in order, and returns how many regions it has, those
+/// that it ends before left out. Returns `None` if there are more of them than `scalars`.
+#[must_use]
+#[tactic(auto, using(font_types::proofs::Callers::calls, crate::proofs::Stores::row_rules))]
+pub fn region_scalars(
+    regions: &[u8],
+    coordinates: &[F2Dot14],
+    scalars: &mut [Fixed],
+) -> Option<usize>
+    ensures len { length scalars.new ≡ length scalars.old }
+    ensures variant { IfNone result (HasRegion regions.now (length scalars.old)) }
+    ensures within { IfSome result (λ count. count ≤ length scalars.old) }
+    ensures value { IfSome result (λ count.
+        AreScalars regions.now coordinates.now (take count scalars.new)) }
+{
+    for region in 0..0x7FFF {
+        let Some(scalar) = region_scalar(regions, region, coordinates) else {
+            return Some(usize::from(region));
+        };
+        let place = usize::from(region);
+        if place >= scalars.len() {
+            return None;
+        }
+        scalars[place] = scalar;
+    }
+    Some(0x7FFF)
 }

@@ -7,7 +7,7 @@ use super::maps::{DeltaSetIndex, is_no_variation, read_delta_set_index};
 use font_types_proved::{F2Dot14, GlyphId16, Scalar, UfWord};
 
 // Returns the bytes from where an offset points, or `None` if it is null or points past the end.
-fn at_offset(table: &[u8], place: usize) -> Option<&[u8]> {
+pub(crate) fn at_offset(table: &[u8], place: usize) -> Option<&[u8]> {
     let offset = u32::read_at(table, place)?;
     if offset == 0 {
         return None;
@@ -34,7 +34,7 @@ pub fn store_and_set(hvar: &[u8], glyph: GlyphId16) -> Option<(&[u8], DeltaSetIn
 }
 
 // Finds the list of regions, the subtable of a delta set, and the index of the set in it.
-fn data_of(store: &[u8], set: DeltaSetIndex) -> Option<(&[u8], &[u8], u16)> {
+pub(crate) fn data_of(store: &[u8], set: DeltaSetIndex) -> Option<(&[u8], &[u8], u16)> {
     let (format, count) = (u16::read_at(store, 0)?, u16::read_at(store, 6)?);
     if format != 1 || store.len() < 8 + 4 * usize::from(count) || set.outer >= u32::from(count) {
         return None;

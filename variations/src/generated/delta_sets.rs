@@ -45,6 +45,38 @@ fn offset_of(words: u16, count: u16, set: u16, column: u16) -> u64 {
     6 + 2 * u64::from(count) + narrow_width_of(words) as u64 * units
 }
 
+// Returns the bytes of a subtable from the first delta of a set on.
+pub(crate) fn row_of(subtable: &[u8], set: u16) -> Option<&[u8]> {
+    let (words, count) = (u16::read_at(subtable, 2)?, u16::read_at(subtable, 4)?);
+    if set >= u16::read_at(subtable, 0)? || words & WORD_DELTA_COUNT_MASK > count {
+        return None;
+    }
+    subtable.get(usize::try_from(offset_of(words, count, set, 0)).ok()?..)
+}
+
+// Reads the delta of a column from the row of a set, by the count of wide columns.
+fn delta_in(row: &[u8], words: u16, column: u16) -> Option<i32> {
+    let (wide, at) = (usize::from(words & WORD_DELTA_COUNT_MASK), usize::from(column));
+    let narrow = narrow_width_of(words);
+    if at < wide {
+        read_signed(row, 2 * narrow * at, 2 * narrow)
+    } else {
+        read_signed(row, narrow * (at + wide), narrow)
+    }
+}
+
+// Reads the region and the delta of a column, by the row of its set. `_set` is for the contract.
+pub(crate) fn column_in(
+    subtable: &[u8],
+    row: &[u8],
+    words: u16,
+    _set: u16,
+    column: u16,
+) -> Option<(u16, i32)> {
+    let region = u16::read_at(subtable, 6 + 2 * usize::from(column))?;
+    Some((region, delta_in(row, words, column)?))
+}
+
 // Reads a signed integer of one, two or four bytes.
 fn read_signed(bytes: &[u8], offset: usize, width: usize) -> Option<i32> {
     match width {
@@ -71,6 +103,20 @@ pub fn column_term(
     Some((region_scalar(regions, region, coordinates)?, delta))
 }
 
+// Returns `column_term`, by the row of the set.
+fn term_in(
+    regions: &[u8],
+    subtable: &[u8],
+    row: &[u8],
+    words: u16,
+    set: u16,
+    column: u16,
+    coordinates: &[F2Dot14],
+) -> Option<(Fixed, i32)> {
+    let (region, delta) = column_in(subtable, row, words, set, column)?;
+    Some((region_scalar(regions, region, coordinates)?, delta))
+}
+
 /// Returns the exact sum of the deltas of a set, each times the scalar of its region, or `None` if
 /// the subtable does not have the set or the list not all its regions.
 #[must_use]
@@ -80,13 +126,17 @@ pub fn set_sum(
     set: u16,
     coordinates: &[F2Dot14],
 ) -> Option<F48Dot16> {
-    let count = u16::read_at(subtable, 4)?;
+    let (words, count) = (u16::read_at(subtable, 2)?, u16::read_at(subtable, 4)?);
     if set >= u16::read_at(subtable, 0)? {
         return None;
     }
+    if count == 0 {
+        return Some(F48Dot16::ZERO);
+    }
+    let row = row_of(subtable, set)?;
     let mut sum = F48Dot16::ZERO;
     for column in 0..count {
-        let (scalar, delta) = column_term(regions, subtable, set, column, coordinates)?;
+        let (scalar, delta) = term_in(regions, subtable, row, words, set, column, coordinates)?;
         sum += scalar.mul_i32(delta);
     }
     Some(sum)

@@ -111,3 +111,24 @@ pub fn region_scalar(regions: &[u8], region: u16, coordinates: &[F2Dot14]) -> Op
     let axes = u16::read_at(regions, 0)?;
     Some(product_of_scalars(region, axes, coordinates))
 }
+
+/// Writes the scalar of each region of a list, in order, and returns how many regions it has, those
+/// that it ends before left out. Returns `None` if there are more of them than `scalars`.
+#[must_use]
+pub fn region_scalars(
+    regions: &[u8],
+    coordinates: &[F2Dot14],
+    scalars: &mut [Fixed],
+) -> Option<usize> {
+    for region in 0..0x7FFF {
+        let Some(scalar) = region_scalar(regions, region, coordinates) else {
+            return Some(usize::from(region));
+        };
+        let place = usize::from(region);
+        if place >= scalars.len() {
+            return None;
+        }
+        scalars[place] = scalar;
+    }
+    Some(0x7FFF)
+}

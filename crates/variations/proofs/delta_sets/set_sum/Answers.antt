@@ -1,3 +1,4 @@
+use borrow.Author.Count.{below_more}
 use Rattle.std.proofs.Common.{rules, ◌≡◌, ℕ, ◌+◌, ◌<◌, ◌+ℤ◌, ◌*ℤ◌}
 use Rattle.font_types.specs.{Fixed.fixed_bits, F48Dot16.f48dot16_bits}
 use Rattle.font_types.proofs.Callers.{calls}
@@ -17,8 +18,9 @@ loop-column-preserved c =
     let fits = term_fits n sum (fixed_bits scalar) delta few so_far.1 term.low term.high term.size in
     let after : f48dot16_bits c.add_assign.new.self ≡ (sum +ℤ (fixed_bits scalar *ℤ delta)) =
     search (rules, calls, fits) in
+    let here : HasTerm c.args.regions.now c.args.subtable.now c.args.set n = search (rules, calls) in
     let each : (k : ℕ) → k < n + 1 → HasTerm c.args.regions.now c.args.subtable.now c.args.set k =
-    search (rules, calls) in (
+    below_more (HasTerm c.args.regions.now c.args.subtable.now c.args.set) n so_far.2 here in (
       rw after (one_more_term c.args.regions.now c.args.subtable.now c.args.coordinates.now c.args.set n sum scalar
           delta so_far.0 term.value),
       rw after (term_small n sum (fixed_bits scalar) delta few so_far.1 term.low term.high term.size),
@@ -28,3 +30,7 @@ loop-column-preserved c =
 pub returns-clause-near : goal.returns-clause-near
 returns-clause-near c = set_sum_is_near c.args.regions.now c.args.subtable.now c.args.coordinates.now c.args.set
     (f48dot16_bits c.loop-column.sum) (search (rules, calls, sum_rules))
+
+pub returns-then-count-eq0-clause-near : goal.returns-then-count-eq0-clause-near
+returns-then-count-eq0-clause-near c = set_sum_is_near c.args.regions.now c.args.subtable.now c.args.coordinates.now
+    c.args.set _ (search (rules, calls, sum_rules))

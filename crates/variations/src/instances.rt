@@ -1,0 +1,206 @@
+//! Item variation stores at the coordinates of an instance.
+
+ghost use Rattle.std.specs.Prelude.{ℕ, ◌≡◌, ◌↔◌, ◌⊎◌, ◌+◌, ◌*◌, ◌<◌, ◌≤◌, ◌^◌, pos, ◌≤ℤ◌, Some};
+ghost use Rattle.std.specs.Prelude.{IsSome, IfSome, MatchOption, length, take, drop, unsigned_abs};
+ghost use Rattle.font_types.specs.Fixed;
+ghost use Rattle.font_types.specs.{Fixed.fixed_bits, F48Dot16.f48dot16_bits, FWord.ufword_number};
+ghost use Rattle.variations.specs.Advances.{HasTarget, HasData, regions_of, subtable_of};
+ghost use Rattle.variations.specs.Instances.{IsAt};
+ghost use Rattle.variations.specs.Variations.{HasRegion, IsRegionScalar, HasRow, row_bytes};
+ghost use Rattle.variations.specs.Variations.{word_delta_count, region_index_count, IsNoVariation};
+ghost use Rattle.variations.specs.Variations.{HasNoVaried, HasSet, IsVaried, HasTerm, IsTerm};
+ghost use Rattle.variations.specs.Variations.{IsSetSum, IsNearSetSum, IsNearAdvance};
+
+use crate::advances::{at_offset, data_of};
+use crate::delta_sets::{column_in, row_of};
+use crate::maps::{DeltaSetIndex, is_no_variation};
+use crate::regions::region_scalars;
+use font_types::{F2Dot14, F48Dot16, Fixed, Scalar, UfWord};
+
+/// Returns the count of regions in a store, as its list has it: [`StoreInstance::new`] takes as many
+/// scalars at most. Returns `None` if the store has no list of regions.
+#[must_use]
+pub fn region_count(store: &[u8]) -> Option<u16>
+    ensures enough { IfSome result (λ count. (region : ℕ)
+        → HasRegion (regions_of store.now) region → region < count) }
+{
+    u16::read_at(at_offset(store, 2)?, 2)
+}
+
+/// An item variation store at the coordinates of an instance, with the scalar of each region. It
+/// answers as [`varied_by`](crate::advances::varied_by) does at these coordinates, but a delta of a
+/// set takes one product, whatever the number of axes.
+#[derive(Clone, Copy, Debug)]
+pub struct StoreInstance<'a> {
+    store: &'a [u8],
+    coordinates: &'a [F2Dot14],
+    scalars: &'a [Fixed],
+}
+
+impl<'a> StoreInstance<'a> {
+    /// Computes the scalars of all regions of a store into `scalars`. Returns `None` if the store
+    /// has no list of regions, or more regions than `scalars` holds.
+    #[must_use]
+    pub fn new(
+        store: &'a [u8],
+        coordinates: &'a [F2Dot14],
+        scalars: &'a mut [Fixed],
+    ) -> Option<StoreInstance<'a>>
+        ensures variant { IsSome result ↔ (HasTarget store.now 2
+            × (¬ HasRegion (regions_of store.now) (length scalars.old))) }
+        ensures store { IfSome result (λ instance. instance.store.now ≡ store.now) }
+        ensures coordinates { IfSome result (λ instance.
+            instance.coordinates.now ≡ coordinates.now) }
+        ensures scalars { IfSome result (λ instance. IsAt instance) }
+    {
+        let regions = at_offset(store, 2)?;
+        let count = region_scalars(regions, coordinates, scalars)?;
+        let scalars: &'a [Fixed] = scalars;
+        let scalars = scalars.get(..count)?;
+        Some(StoreInstance {
+            store,
+            coordinates,
+            scalars,
+        })
+    }
+
+    /// Returns the coordinates.
+    #[must_use]
+    pub fn coordinates(&self) -> &'a [F2Dot14]
+        ensures { result.now ≡ self.now.coordinates.now }
+    {
+        self.coordinates
+    }
+
+    /// Returns the scalar of a region, as [`region_scalar`](crate::regions::region_scalar) does.
+    #[must_use]
+    pub fn scalar(&self, region: u16) -> Option<Fixed>
+        requires at { IsAt self.now }
+        ensures variant { IsSome result ↔ HasRegion (regions_of self.now.store.now) region }
+        ensures value { IfSome result (λ scalar. IsRegionScalar (regions_of self.now.store.now)
+            region self.now.coordinates.now (fixed_bits scalar)) }
+        ensures low { IfSome result (λ scalar. pos 0 ≤ℤ fixed_bits scalar) }
+        ensures high { IfSome result (λ scalar. fixed_bits scalar ≤ℤ fixed_bits Fixed.ONE) }
+    {
+        self.scalars.get(usize::from(region)).copied()
+    }
+
+    // Returns the scalar of a column's region and the delta of the column.
+    fn term(
+        &self,
+        subtable: &[u8],
+        row: &[u8],
+        words: u16,
+        set: u16,
+        column: u16,
+    ) -> Option<(Fixed, i32)>
+        requires at { IsAt self.now }
+        requires set { HasRow subtable.now set }
+        requires row { row.now ≡ row_bytes subtable.now set }
+        requires words { words ≡ word_delta_count subtable.now }
+        requires column { column < region_index_count subtable.now }
+        ensures variant { IsSome result
+            ↔ HasTerm (regions_of self.now.store.now) subtable.now set column }
+        ensures value { IfSome result (λ term. IsTerm (regions_of self.now.store.now) subtable.now
+            self.now.coordinates.now set column term) }
+        ensures low { IfSome result (λ term. pos 0 ≤ℤ fixed_bits term.0) }
+        ensures high { IfSome result (λ term. fixed_bits term.0 ≤ℤ fixed_bits Fixed.ONE) }
+        ensures size { IfSome result (λ term. unsigned_abs term.1 ≤ 2 ^ 31) }
+    {
+        let (region, delta) = column_in(subtable, row, words, set, column)?;
+        Some((self.scalar(region)?, delta))
+    }
+
+    // Returns the exact sum of the deltas of a set, each times the scalar of its region.
+    #[tactic(auto, using(font_types::proofs::Callers::calls, crate::proofs::Stores::sum_rules))]
+    fn sum(&self, subtable: &[u8], set: u16) -> Option<F48Dot16>
+        requires at { IsAt self.now }
+        ensures variant { IsSome result ↔ HasSet (regions_of self.now.store.now) subtable.now set }
+        ensures value { IfSome result (λ sum. IsSetSum (regions_of self.now.store.now) subtable.now
+            self.now.coordinates.now set (f48dot16_bits sum)) }
+        ensures near { IfSome result (λ sum. IsNearSetSum (regions_of self.now.store.now)
+            subtable.now self.now.coordinates.now set (f48dot16_bits sum)) }
+    {
+        let (words, count) = (u16::read_at(subtable, 2)?, u16::read_at(subtable, 4)?);
+        if set >= u16::read_at(subtable, 0)? {
+            return None;
+        }
+        let mut sum = F48Dot16::ZERO;
+        if count == 0 {
+            return Some(sum);
+        }
+        let row = row_of(subtable, set)?;
+        for column in 0..count {
+            let (scalar, delta) = self.term(subtable, row, words, set, column)?;
+            sum += scalar.mul_i32(delta);
+        }
+        Some(sum)
+    }
+
+    /// Returns the exact sum of the deltas of a set, each times the scalar of its region: 0 for the
+    /// set without variation data, and `None` if the store does not have the set.
+    #[must_use]
+    pub fn delta(&self, set: DeltaSetIndex) -> Option<F48Dot16>
+        requires at { IsAt self.now }
+        ensures unvaried { IsNoVariation set.outer set.inner
+            → IfSome result (λ sum. f48dot16_bits sum ≡ pos 0) }
+        ensures variant { ¬ IsNoVariation set.outer set.inner → IsSome result
+            ↔ (HasData self.now.store.now set.outer set.inner × HasSet (regions_of
+            self.now.store.now) (subtable_of self.now.store.now set.outer) set.inner) }
+        ensures value { ¬ IsNoVariation set.outer set.inner → IfSome result (λ sum. IsSetSum
+            (regions_of self.now.store.now) (subtable_of self.now.store.now set.outer)
+            self.now.coordinates.now set.inner (f48dot16_bits sum)) }
+        ensures near { ¬ IsNoVariation set.outer set.inner → IfSome result (λ sum. IsNearSetSum
+            (regions_of self.now.store.now) (subtable_of self.now.store.now set.outer)
+            self.now.coordinates.now set.inner (f48dot16_bits sum)) }
+    {
+        if is_no_variation(set) {
+            return Some(F48Dot16::ZERO);
+        }
+        let (_, subtable, inner) = data_of(self.store, set)?;
+        self.sum(subtable, inner)
+    }
+
+    // Adds the sum of a set to an advance and rounds once.
+    fn vary(&self, advance: UfWord, subtable: &[u8], set: u16) -> Option<UfWord>
+        requires at { IsAt self.now }
+        ensures value { MatchOption result (HasNoVaried (regions_of self.now.store.now)
+            subtable.now self.now.coordinates.now set (ufword_number advance))
+            (λ varied. HasSet (regions_of self.now.store.now) subtable.now set
+            × IsVaried (regions_of self.now.store.now) subtable.now self.now.coordinates.now set
+            (ufword_number advance) (pos (ufword_number varied))) }
+        ensures near { IfSome result (λ varied. IsNearAdvance (regions_of self.now.store.now)
+            subtable.now self.now.coordinates.now set (ufword_number advance)
+            (pos (ufword_number varied))) }
+    {
+        advance.checked_add_delta(self.sum(subtable, set)?)
+    }
+
+    /// Varies an advance by a set, as [`varied_by`](crate::advances::varied_by) does at these
+    /// coordinates.
+    #[must_use]
+    pub fn varied(&self, advance: UfWord, set: DeltaSetIndex) -> Option<UfWord>
+        requires at { IsAt self.now }
+        ensures unvaried { IsNoVariation set.outer set.inner → result ≡ Some advance }
+        ensures value { ¬ IsNoVariation set.outer set.inner → MatchOption result
+            ((¬ HasData self.now.store.now set.outer set.inner) ⊎ HasNoVaried
+            (regions_of self.now.store.now) (subtable_of self.now.store.now set.outer)
+            self.now.coordinates.now set.inner (ufword_number advance))
+            (λ varied. HasData self.now.store.now set.outer set.inner
+            × HasSet (regions_of self.now.store.now) (subtable_of self.now.store.now set.outer)
+            set.inner
+            × IsVaried (regions_of self.now.store.now) (subtable_of self.now.store.now set.outer)
+            self.now.coordinates.now set.inner (ufword_number advance)
+            (pos (ufword_number varied))) }
+        ensures near { ¬ IsNoVariation set.outer set.inner → IfSome result (λ varied.
+            IsNearAdvance (regions_of self.now.store.now) (subtable_of self.now.store.now set.outer)
+            self.now.coordinates.now set.inner (ufword_number advance)
+            (pos (ufword_number varied))) }
+    {
+        if is_no_variation(set) {
+            return Some(advance);
+        }
+        let (_, subtable, inner) = data_of(self.store, set)?;
+        self.vary(advance, subtable, inner)
+    }
+}

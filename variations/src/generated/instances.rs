@@ -1,0 +1,113 @@
+// @generated from crates/variations/src/instances.rt by tools/erase
+
+//! Item variation stores at the coordinates of an instance.
+
+use super::advances::{at_offset, data_of};
+use super::delta_sets::{column_in, row_of};
+use super::maps::{DeltaSetIndex, is_no_variation};
+use super::regions::region_scalars;
+use font_types_proved::{F2Dot14, F48Dot16, Fixed, Scalar, UfWord};
+
+/// Returns the count of regions in a store, as its list has it: [`StoreInstance::new`] takes as many
+/// scalars at most. Returns `None` if the store has no list of regions.
+#[must_use]
+pub fn region_count(store: &[u8]) -> Option<u16> {
+    u16::read_at(at_offset(store, 2)?, 2)
+}
+
+/// An item variation store at the coordinates of an instance, with the scalar of each region. It
+/// answers as [`varied_by`](crate::advances::varied_by) does at these coordinates, but a delta of a
+/// set takes one product, whatever the number of axes.
+#[derive(Clone, Copy, Debug)]
+pub struct StoreInstance<'a> {
+    store: &'a [u8],
+    coordinates: &'a [F2Dot14],
+    scalars: &'a [Fixed],
+}
+
+impl<'a> StoreInstance<'a> {
+    /// Computes the scalars of all regions of a store into `scalars`. Returns `None` if the store
+    /// has no list of regions, or more regions than `scalars` holds.
+    #[must_use]
+    pub fn new(
+        store: &'a [u8],
+        coordinates: &'a [F2Dot14],
+        scalars: &'a mut [Fixed],
+    ) -> Option<StoreInstance<'a>> {
+        let regions = at_offset(store, 2)?;
+        let count = region_scalars(regions, coordinates, scalars)?;
+        let scalars: &'a [Fixed] = scalars;
+        let scalars = scalars.get(..count)?;
+        Some(StoreInstance { store, coordinates, scalars })
+    }
+
+    /// Returns the coordinates.
+    #[must_use]
+    pub fn coordinates(&self) -> &'a [F2Dot14] {
+        self.coordinates
+    }
+
+    /// Returns the scalar of a region, as [`region_scalar`](crate::regions::region_scalar) does.
+    #[must_use]
+    pub fn scalar(&self, region: u16) -> Option<Fixed> {
+        self.scalars.get(usize::from(region)).copied()
+    }
+
+    // Returns the scalar of a column's region and the delta of the column.
+    fn term(
+        &self,
+        subtable: &[u8],
+        row: &[u8],
+        words: u16,
+        set: u16,
+        column: u16,
+    ) -> Option<(Fixed, i32)> {
+        let (region, delta) = column_in(subtable, row, words, set, column)?;
+        Some((self.scalar(region)?, delta))
+    }
+
+    // Returns the exact sum of the deltas of a set, each times the scalar of its region.
+    fn sum(&self, subtable: &[u8], set: u16) -> Option<F48Dot16> {
+        let (words, count) = (u16::read_at(subtable, 2)?, u16::read_at(subtable, 4)?);
+        if set >= u16::read_at(subtable, 0)? {
+            return None;
+        }
+        let mut sum = F48Dot16::ZERO;
+        if count == 0 {
+            return Some(sum);
+        }
+        let row = row_of(subtable, set)?;
+        for column in 0..count {
+            let (scalar, delta) = self.term(subtable, row, words, set, column)?;
+            sum += scalar.mul_i32(delta);
+        }
+        Some(sum)
+    }
+
+    /// Returns the exact sum of the deltas of a set, each times the scalar of its region: 0 for the
+    /// set without variation data, and `None` if the store does not have the set.
+    #[must_use]
+    pub fn delta(&self, set: DeltaSetIndex) -> Option<F48Dot16> {
+        if is_no_variation(set) {
+            return Some(F48Dot16::ZERO);
+        }
+        let (_, subtable, inner) = data_of(self.store, set)?;
+        self.sum(subtable, inner)
+    }
+
+    // Adds the sum of a set to an advance and rounds once.
+    fn vary(&self, advance: UfWord, subtable: &[u8], set: u16) -> Option<UfWord> {
+        advance.checked_add_delta(self.sum(subtable, set)?)
+    }
+
+    /// Varies an advance by a set, as [`varied_by`](crate::advances::varied_by) does at these
+    /// coordinates.
+    #[must_use]
+    pub fn varied(&self, advance: UfWord, set: DeltaSetIndex) -> Option<UfWord> {
+        if is_no_variation(set) {
+            return Some(advance);
+        }
+        let (_, subtable, inner) = data_of(self.store, set)?;
+        self.vary(advance, subtable, inner)
+    }
+}
