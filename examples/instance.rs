@@ -12,7 +12,7 @@
 pub mod font;
 
 use font::Font;
-use font_types_proved::{F2Dot14, Fixed, GlyphId16, Scalar, Tag, UfWord};
+use font_types_proved::{F2Dot14, Fixed, GlyphId16, Scalar, Tag, UfWord, records};
 use font_variations_proved::advances::{store_and_set, varied_by};
 use font_variations_proved::evaluator::{Setting, SettingError, VariationAxisRecord, segment_map};
 use font_variations_proved::evaluator::{final_coordinate, normalize, read_axis, read_setting};
@@ -43,14 +43,12 @@ pub fn axes(font: &Font<'_>) -> Result<Vec<VariationAxisRecord>, String> {
     let Some(fvar) = of_version(font, b"fvar", 1)? else {
         return Ok(Vec::new());
     };
-    records(fvar).ok_or("`fvar` ends before its axes".into())
+    read_axes(fvar).ok_or("`fvar` ends before its axes".into())
 }
 
-fn records(fvar: &[u8]) -> Option<Vec<VariationAxisRecord>> {
-    let [start, count, size] = [4, 8, 10].map(|field| u16::read_at(fvar, field));
-    let (start, size) = (usize::from(start?), usize::from(size?));
-    let record = |n| read_axis(fvar.get(start + size * n..)?);
-    (0..count?.into()).map(record).collect()
+fn read_axes(fvar: &[u8]) -> Option<Vec<VariationAxisRecord>> {
+    let [start, count, size] = [4, 8, 10].map(|field| u16::read_at(fvar, field).map(usize::from));
+    records(fvar, start?, count?, size?)?.map(read_axis).collect()
 }
 
 /// The coordinate of a value of the axis of this index, from -1 to 1.

@@ -2,7 +2,7 @@
 
 use font_types_proved::{
     F2Dot14, FWord, Fixed, FixedSize, LongDateTime, MajorMinor, NameId, Scalar, ScalarArray,
-    TableDataRef, Tag, record,
+    TableDataRef, Tag, record, records,
 };
 
 record! {
@@ -116,6 +116,49 @@ fn a_record_is_the_head_of_a_table() {
     let (fvar, rest) = TableDataRef::<Fvar>::new(&bytes).unwrap().split();
     assert_eq!((fvar.axis_size, fvar.instance_size, rest), (0x0A0B, 0x0E0F, &[16][..]));
     assert!(TableDataRef::<Fvar>::new(&bytes[..15]).is_none());
+}
+
+/// The axes and the instances of `fvar`, each longer than what is read of it.
+#[test]
+fn records_of_a_size_in_the_table() {
+    let (axis_count, axis_size, instance_size) = (2, 22, 16);
+    let mut bytes = vec![0, 1, 0, 0, 0, 16, 0, 2, 0, 2, 0, 22, 0, 3, 0, 16];
+    for (tag, min) in [(b"wght", 100), (b"wdth", 75)] {
+        bytes.extend(tag);
+        bytes.extend(
+            [min, min + 1, min + 2].map(|n| Fixed::from_i32(n).to_be_bytes()).as_flattened(),
+        );
+        bytes.extend([0, 0, 1, 0, 0xEE, 0xEE]);
+    }
+    for n in 0..3 {
+        bytes.extend([1, n, 0, 0]);
+        bytes.extend(
+            [100 + i32::from(n), 75].map(|n| Fixed::from_i32(n).to_be_bytes()).as_flattened(),
+        );
+        bytes.extend([2, n, 0xEE, 0xEE]);
+    }
+    let (fvar, _) = TableDataRef::<Fvar>::new(&bytes).unwrap().split();
+    let start = usize::from(fvar.axes_offset);
+    assert_eq!((fvar.axis_size, fvar.instance_size), (axis_size as u16, instance_size as u16));
+    let axes = records(&bytes, start, axis_count, axis_size).unwrap();
+    let axes: Vec<_> = axes
+        .map(|axis| Some((Tag::read_at(axis, 0)?, Fixed::read_at(axis, 8)?.to_i32())))
+        .collect::<Option<_>>()
+        .unwrap();
+    assert_eq!(axes, [(Tag::new(b"wght"), 101), (Tag::new(b"wdth"), 76)]);
+    let instances_at = start + axis_count * axis_size;
+    let instances = records(&bytes, instances_at, 3, instance_size).unwrap();
+    assert_eq!((instances.len(), instances.remainder().len()), (3, 0));
+    for (n, instance) in instances.enumerate() {
+        let at = ScalarArray::<Fixed>::read_at(instance, 4, axis_count).unwrap();
+        assert_eq!(at.get(0), Some(Fixed::from_i32(100 + n as i32)));
+        let name = (instance_size >= 6 + 4 * axis_count).then(|| NameId::read_at(instance, 12));
+        assert_eq!(name, Some(Some(NameId::new(0x200 + n as u16))));
+    }
+    assert!(records(&bytes, instances_at, 4, 16).is_none() && records(&bytes, 0, 1, 0).is_none());
+    assert!(records(&bytes, usize::MAX, 1, 1).is_none());
+    assert!(records(&bytes, 1, usize::MAX, 3).is_none());
+    assert_eq!(records(&bytes, bytes.len(), 0, 5).map(|none| none.len()), Some(0));
 }
 
 #[test]

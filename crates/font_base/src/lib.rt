@@ -12,6 +12,7 @@ mod big_endian;
 mod facts;
 mod int24;
 mod raw;
+mod strided;
 mod table_data;
 mod uint24;
 
@@ -19,5 +20,6 @@ pub use array::{ScalarArray, ScalarArrayIter};
 pub use big_endian::BigEndian;
 pub use int24::Int24;
 pub use raw::{BeByteArray, ByteChunks, FixedSize, IdentityEq, Scalar};
+pub use strided::records;
 pub use table_data::{SampleHeader, TableDataRef, TableHeader};
 pub use uint24::{TryFromUint24Error, Uint24};

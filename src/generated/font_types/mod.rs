@@ -16,7 +16,7 @@ pub mod laws;
 
 pub use crate::font_base::{
     BeByteArray, BigEndian, ByteChunks, FixedSize, IdentityEq, Int24, SampleHeader, Scalar,
-    ScalarArray, ScalarArrayIter, TableDataRef, TableHeader, TryFromUint24Error, Uint24,
+    ScalarArray, ScalarArrayIter, TableDataRef, TableHeader, TryFromUint24Error, Uint24, records,
 };
 pub use crate::font_decimal::{
     Align, DecimalFault, Pad, Shortest, read_decimal, read_decimal_bytes, write_padded,

@@ -1,0 +1,46 @@
+// @generated from crates/font_base/src/strided.rt by tools/erase
+
+//! Records whose size is a field of their table.
+
+use core::slice::ChunksExact;
+
+/// Returns the bytes of `count` records of `size` bytes each, one after another from `offset`, or
+/// `None` if `size` is 0 or the bytes end before the last record does.
+///
+/// So tables store records that later versions make longer: the axes and the instances of `fvar`,
+/// the axes of `STAT`, the values of `MVAR`. Read the fields of each record from its own bytes.
+///
+/// ```
+/// use font_types_proved::{Scalar, Tag, records};
+/// // Two records of a tag and a byte that a later version has added.
+/// let table = *b"\0\0wght\x01wdth\x02";
+/// let mut tags = records(&table, 2, 2, 5).unwrap().map(|axis| Tag::read_at(axis, 0));
+/// assert_eq!(tags.next(), Some(Some(Tag::new(b"wght"))));
+/// assert_eq!(tags.next(), Some(Some(Tag::new(b"wdth"))));
+/// assert!(records(&table, 2, 3, 5).is_none() && records(&table, 2, 2, 0).is_none());
+/// ```
+///
+/// <details><summary>Contract</summary>
+///
+/// ```text
+/// ensures variant { IsSome result
+///     ↔ ((0 < size) × (offset + count * size ≤ length bytes.now)) }
+/// ensures bytes { IfSome result (λ records.
+///     chunks_exact_rest records ≡ take (count * size) (drop offset bytes.now)) }
+/// ensures size { IfSome result (λ records. chunks_exact_size records ≡ size) }
+/// ```
+/// </details>
+#[must_use]
+#[inline]
+pub fn records(
+    bytes: &[u8],
+    offset: usize,
+    count: usize,
+    size: usize,
+) -> Option<ChunksExact<'_, u8>> {
+    if size == 0 {
+        return None;
+    }
+    let end = offset.checked_add(count.checked_mul(size)?)?;
+    Some(bytes.get(offset..end)?.chunks_exact(size))
+}
