@@ -225,6 +225,12 @@ fn compare_tags_with_texts() {
     assert!(Tag::new(b"cvt ") == "cvt " && Tag::new(b"cvt ") != "cvt" && Tag::default() != "");
     assert!(Tag::new(b"cvt ") == *b"cvt " && Tag::new(b"cvt ") != *b"cvt\0");
     assert!(Tag::default() != b"".as_slice());
+    // Each form of the bytes and of the text, and another tag.
+    for (bytes, text, same) in [(b"cvt ", "cvt ", true), (b"cvt\0", "cvt", false)] {
+        let tag = Tag::new(b"cvt ");
+        assert_eq!([tag == *bytes, tag == bytes, bytes == tag], [same; 3], "{text}");
+        assert_eq!([tag == *text, tag == text, tag == bytes.as_slice()], [same; 3], "{text}");
+    }
     assert_eq!(BTreeMap::from([(kern, 1)]).get(b"kern"), Some(&1));
     assert_eq!(HashMap::from([(kern, 1)]).get(b"kern"), Some(&1));
     assert_eq!(AsRef::<[u8]>::as_ref(&Tag::new(b"a\0b ")), b"a\0b ");
