@@ -77,7 +77,8 @@ class Contracts:
         names = definitions.named(text, self.imported)
         self.shown |= names
         fold = "<details><summary>Contract</summary>\n\n```text"
-        shown = definitions.docs(f"{fold}\n{text}\n```{definitions.links(names)}\n</details>")
+        links = "[Notation](crate::definitions)" + definitions.links(names).replace("\n", ": ")
+        shown = definitions.docs(f"{fold}\n{text}\n```\n{links}\n</details>")
         if clauses and end is None:
             self.eraser.put(self.first(at), shown)
         elif clauses:

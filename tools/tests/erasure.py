@@ -123,7 +123,7 @@ const TEXT: [&str; 2] = [r#"+ Drop"; /* crate::A */"#, "std::fmt"];
 SHORT = {
     "OWN": "crate::font_base",
     "FOLD": "/// <details><summary>Contract</summary>\n///\n/// ```text\n",
-    "END": "/// ```\n/// </details>",
+    "END": "/// ```\n/// [Notation](crate::definitions)\n/// </details>",
 }
 CHANGED = r"""
 0..crate::A < (&crate::B, <crate::C>) ⇒ 0..OWN::A < (&OWN::B, <OWN::C>)

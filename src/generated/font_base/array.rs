@@ -45,7 +45,7 @@ use core::slice::Iter;
 /// ```text
 /// ghost are_raw: { AreRaw T.Raw.is_value T.Raw.bytes T.RAW_BYTE_LEN raw.now },
 /// ```
-/// [`AreRaw`]
+/// [Notation](crate::definitions): [`AreRaw`]
 /// </details>
 pub struct ScalarArray<'a, T: Scalar> {
     raw: &'a [T::Raw],
@@ -63,7 +63,7 @@ impl<'a, T: Scalar> ScalarArray<'a, T> {
     /// ensures variant { IsSome result ↔ (length «data».now % T.RAW_BYTE_LEN ≡ 0) }
     /// ensures bytes { IfSome result (λ array. array_bytes array ≡ «data».now) }
     /// ```
-    /// [`array_bytes`]
+    /// [Notation](crate::definitions): [`array_bytes`]
     /// </details>
     #[must_use]
     #[inline]
@@ -102,7 +102,7 @@ impl<'a, T: Scalar> ScalarArray<'a, T> {
     /// ensures elements { IfSome result (λ array. (i : ℕ) → i < count → element_bytes array i
     ///     ≡ take T.RAW_BYTE_LEN (drop (offset + i * T.RAW_BYTE_LEN) bytes.now)) }
     /// ```
-    /// [`array_bytes`], [`array_len`], [`element_bytes`]
+    /// [Notation](crate::definitions): [`array_bytes`], [`array_len`], [`element_bytes`]
     /// </details>
     #[must_use]
     #[inline]
@@ -127,7 +127,7 @@ impl<'a, T: Scalar> ScalarArray<'a, T> {
     /// ensures value { result ≡ array_len self.now }
     /// ensures bytes { result * T.RAW_BYTE_LEN ≡ length (array_bytes self.now) }
     /// ```
-    /// [`array_len`], [`array_bytes`]
+    /// [Notation](crate::definitions): [`array_len`], [`array_bytes`]
     /// </details>
     #[must_use]
     #[inline]
@@ -142,7 +142,7 @@ impl<'a, T: Scalar> ScalarArray<'a, T> {
     /// ```text
     /// ensures { IsTrue result ↔ (array_len self.now ≡ 0) }
     /// ```
-    /// [`array_len`]
+    /// [Notation](crate::definitions): [`array_len`]
     /// </details>
     #[must_use]
     #[inline]
@@ -157,7 +157,7 @@ impl<'a, T: Scalar> ScalarArray<'a, T> {
     /// ```text
     /// ensures { result.now ≡ array_bytes self.now }
     /// ```
-    /// [`array_bytes`]
+    /// [Notation](crate::definitions): [`array_bytes`]
     /// </details>
     #[must_use]
     #[inline]
@@ -184,7 +184,7 @@ impl<'a, T: Scalar> ScalarArray<'a, T> {
     /// ```text
     /// ensures { map T.Raw.bytes result.now ≡ array_elements self.now }
     /// ```
-    /// [`array_elements`]
+    /// [Notation](crate::definitions): [`array_elements`]
     /// </details>
     #[must_use]
     #[inline]
@@ -201,7 +201,7 @@ impl<'a, T: Scalar> ScalarArray<'a, T> {
     /// ensures stored { IfSome result (λ v.
     ///     T.Raw.bytes (T.raw_of v) ≡ element_bytes self.now index) }
     /// ```
-    /// [`array_len`], [`element_bytes`]
+    /// [Notation](crate::definitions): [`array_len`], [`element_bytes`]
     /// </details>
     #[must_use]
     #[inline]
@@ -219,7 +219,7 @@ impl<'a, T: Scalar> ScalarArray<'a, T> {
     /// ensures stored { IfSome result (λ v.
     ///     T.Raw.bytes (T.raw_of v) ≡ element_bytes self.now 0) }
     /// ```
-    /// [`array_len`], [`element_bytes`]
+    /// [Notation](crate::definitions): [`array_len`], [`element_bytes`]
     /// </details>
     #[must_use]
     #[inline]
@@ -236,7 +236,7 @@ impl<'a, T: Scalar> ScalarArray<'a, T> {
     /// ensures stored { IfSome result (λ v.
     ///     T.Raw.bytes (T.raw_of v) ≡ element_bytes self.now (array_len self.now - 1)) }
     /// ```
-    /// [`array_len`], [`element_bytes`]
+    /// [Notation](crate::definitions): [`array_len`], [`element_bytes`]
     /// </details>
     #[must_use]
     #[inline]
@@ -264,7 +264,7 @@ impl<'a, T: Scalar> ScalarArray<'a, T> {
     ///     ≡ take ((end - start) * T.RAW_BYTE_LEN)
     ///     (drop (start * T.RAW_BYTE_LEN) (array_bytes self.now))) }
     /// ```
-    /// [`array_len`], [`array_elements`], [`array_bytes`]
+    /// [Notation](crate::definitions): [`array_len`], [`array_elements`], [`array_bytes`]
     /// </details>
     #[must_use]
     #[inline]
@@ -295,7 +295,7 @@ impl<'a, T: Scalar> Copy for ScalarArray<'a, T> {}
 /// ```text
 /// ghost is_default = { λ array. array_bytes array ≡ [] };
 /// ```
-/// [`array_bytes`]
+/// [Notation](crate::definitions): [`array_bytes`]
 /// </details>
 impl<'a, T: Scalar> Default for ScalarArray<'a, T> {
     #[inline]
@@ -312,7 +312,7 @@ impl<'a, T: Scalar> Default for ScalarArray<'a, T> {
 /// ```text
 /// ghost eq = { on array_bytes (pointwise nat_eq) };
 /// ```
-/// [`array_bytes`]
+/// [Notation](crate::definitions): [`array_bytes`]
 /// </details>
 impl<'a, T: Scalar> PartialEq for ScalarArray<'a, T>
 where
@@ -354,7 +354,7 @@ impl<'a, T: Scalar> ScalarArray<'a, T> {
     ///     → ((v : T) (o : Ordering) → F.post compare v o → o ≡ answer v)
     ///     → IsSearched self.now answer result }
     /// ```
-    /// [`array_len`], [`IsSearched`]
+    /// [Notation](crate::definitions): [`array_len`], [`IsSearched`]
     /// </details>
     #[inline]
     pub fn binary_search_by<F: Fn(T) -> Ordering>(&self, compare: F) -> Result<usize, usize> {
@@ -377,7 +377,7 @@ impl<'a, T: Scalar> ScalarArray<'a, T> {
     /// ensures place { (of : T → K) → ((v : T) (k : K) → F.post key_of v k → k ≡ of v)
     ///     → IsSearched self.now (λ v. K.cmp (of v) key.now) result }
     /// ```
-    /// [`array_len`], [`IsSearched`]
+    /// [Notation](crate::definitions): [`array_len`], [`IsSearched`]
     /// </details>
     #[inline]
     pub fn binary_search_by_key<K: Ord, F: Fn(T) -> K>(
@@ -406,7 +406,7 @@ impl<'a, T: Scalar> ScalarArray<'a, T> {
     ///     → ((v : T) (b : Bool) → F.post is_before v b → b ≡ before v)
     ///     → IsPartitionPoint self.now before result }
     /// ```
-    /// [`array_len`], [`IsPartitionPoint`]
+    /// [Notation](crate::definitions): [`array_len`], [`IsPartitionPoint`]
     /// </details>
     #[must_use]
     #[inline]
@@ -426,7 +426,7 @@ impl<'a, T: Scalar> ScalarArray<'a, T> {
     /// ```text
     /// ensures { IsSearched self.now (λ v. T.cmp v key.now) result }
     /// ```
-    /// [`IsSearched`]
+    /// [Notation](crate::definitions): [`IsSearched`]
     /// </details>
     #[inline]
     pub fn binary_search(&self, key: &T) -> Result<usize, usize>
@@ -449,7 +449,7 @@ impl<'a, T: Scalar> ScalarArray<'a, T> {
 /// ```text
 /// ghost are_raw: { AreRaw T.Raw.is_value T.Raw.bytes T.RAW_BYTE_LEN (iter_rest rest) },
 /// ```
-/// [`AreRaw`]
+/// [Notation](crate::definitions): [`AreRaw`]
 /// </details>
 pub struct ScalarArrayIter<'a, T: Scalar> {
     rest: Iter<'a, T::Raw>,
@@ -463,7 +463,7 @@ impl<'a, T: Scalar> ScalarArrayIter<'a, T> {
     /// ```text
     /// ensures { array_elements result ≡ elements_left self.now }
     /// ```
-    /// [`array_elements`], [`elements_left`]
+    /// [Notation](crate::definitions): [`array_elements`], [`elements_left`]
     /// </details>
     #[must_use]
     #[inline]
@@ -478,7 +478,7 @@ impl<'a, T: Scalar> ScalarArrayIter<'a, T> {
 /// ghost next_gives = { YieldsFirstBy (λ v. T.Raw.bytes (T.raw_of v)) elements_left };
 /// ghost remaining = { item_count elements_left };
 /// ```
-/// [`elements_left`]
+/// [Notation](crate::definitions): [`elements_left`]
 /// </details>
 impl<'a, T: Scalar> Iterator for ScalarArrayIter<'a, T> {
     type Item = T;
@@ -503,7 +503,7 @@ impl<'a, T: Scalar> Iterator for ScalarArrayIter<'a, T> {
 /// ```text
 /// ghost next_back_gives = { YieldsLastBy (λ v. T.Raw.bytes (T.raw_of v)) elements_left };
 /// ```
-/// [`elements_left`]
+/// [Notation](crate::definitions): [`elements_left`]
 /// </details>
 impl<'a, T: Scalar> DoubleEndedIterator for ScalarArrayIter<'a, T> {
     #[inline]
@@ -536,7 +536,7 @@ impl<'a, T: Scalar> Clone for ScalarArrayIter<'a, T> {
 /// ```text
 /// ghost into_iter_gives = { λ array iter. elements_left iter ≡ array_elements array };
 /// ```
-/// [`elements_left`], [`array_elements`]
+/// [Notation](crate::definitions): [`elements_left`], [`array_elements`]
 /// </details>
 impl<'a, T: Scalar> IntoIterator for ScalarArray<'a, T> {
     type Item = T;
@@ -554,7 +554,7 @@ impl<'a, T: Scalar> IntoIterator for ScalarArray<'a, T> {
 /// ```text
 /// ghost into_iter_gives = { λ array iter. elements_left iter ≡ array_elements array.now };
 /// ```
-/// [`elements_left`], [`array_elements`]
+/// [Notation](crate::definitions): [`elements_left`], [`array_elements`]
 /// </details>
 impl<'a, T: Scalar> IntoIterator for &ScalarArray<'a, T> {
     type Item = T;

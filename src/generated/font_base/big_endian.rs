@@ -29,6 +29,7 @@ use core::marker::PhantomData;
 /// ```text
 /// ghost value: { IsTrue (R.is_value raw) },
 /// ```
+/// [Notation](crate::definitions)
 /// </details>
 pub struct BigEndian<T: Scalar, R: BeByteArray = <T as Scalar>::Raw> {
     raw: R,
@@ -43,7 +44,7 @@ impl<T: Scalar> BigEndian<T> {
     /// ```text
     /// ensures { raw_value result ≡ raw }
     /// ```
-    /// [`raw_value`]
+    /// [Notation](crate::definitions): [`raw_value`]
     /// </details>
     #[must_use]
     #[inline]
@@ -60,7 +61,7 @@ impl<T: Scalar> BigEndian<T> {
     /// ensures variant { IsSome result ↔ (length slice.now ≡ T.RAW_BYTE_LEN) }
     /// ensures bytes { IfSome result (λ field. T.Raw.bytes (raw_value field) ≡ slice.now) }
     /// ```
-    /// [`raw_value`]
+    /// [Notation](crate::definitions): [`raw_value`]
     /// </details>
     #[must_use]
     #[inline]
@@ -87,7 +88,7 @@ impl<T: Scalar> BigEndian<T> {
     /// ensures bytes { IfSome result (λ field.
     ///     T.Raw.bytes (raw_value field) ≡ take T.RAW_BYTE_LEN (drop offset bytes.now)) }
     /// ```
-    /// [`raw_value`]
+    /// [Notation](crate::definitions): [`raw_value`]
     /// </details>
     #[must_use]
     #[inline]
@@ -117,7 +118,7 @@ impl<T: Scalar> BigEndian<T> {
     ///     ≡ drop (offset + T.RAW_BYTE_LEN) bytes.old }
     /// ensures kept { IfNone result (bytes.new ≡ bytes.old) }
     /// ```
-    /// [`raw_value`]
+    /// [Notation](crate::definitions): [`raw_value`]
     /// </details>
     #[must_use]
     #[inline]
@@ -133,7 +134,7 @@ impl<T: Scalar> BigEndian<T> {
     /// ensures value { result ≡ T.of_raw (raw_value self.now) }
     /// ensures back { T.raw_of result ≡ raw_value self.now }
     /// ```
-    /// [`raw_value`]
+    /// [Notation](crate::definitions): [`raw_value`]
     /// </details>
     #[must_use]
     #[inline(always)]
@@ -149,7 +150,7 @@ impl<T: Scalar> BigEndian<T> {
     /// ensures bytes { raw_value self.new ≡ T.raw_of value }
     /// ensures back { T.of_raw (raw_value self.new) ≡ value }
     /// ```
-    /// [`raw_value`]
+    /// [Notation](crate::definitions): [`raw_value`]
     /// </details>
     #[inline]
     pub fn set(&mut self, value: T) {
@@ -163,7 +164,7 @@ impl<T: Scalar> BigEndian<T> {
     /// ```text
     /// ensures { result.now ≡ T.Raw.bytes (raw_value self.now) }
     /// ```
-    /// [`raw_value`]
+    /// [Notation](crate::definitions): [`raw_value`]
     /// </details>
     #[must_use]
     #[inline]
@@ -182,7 +183,7 @@ impl<T: Scalar> BigEndian<T> {
     /// ```text
     /// ensures { result ≡ T.eq (T.of_raw (raw_value self.now)) other.now }
     /// ```
-    /// [`raw_value`]
+    /// [Notation](crate::definitions): [`raw_value`]
     /// </details>
     #[must_use]
     #[inline]
@@ -213,7 +214,7 @@ impl<T: Scalar> FixedSize for BigEndian<T> {
 /// ghost from_gives = { λ value field. (raw_value field ≡ T.raw_of value)
 ///     × (T.of_raw (raw_value field) ≡ value) };
 /// ```
-/// [`raw_value`]
+/// [Notation](crate::definitions): [`raw_value`]
 /// </details>
 impl<T: Scalar> From<T> for BigEndian<T> {
     #[inline]
@@ -227,7 +228,7 @@ impl<T: Scalar> From<T> for BigEndian<T> {
 /// ```text
 /// ghost eq = { on (λ field. T.Raw.bytes (raw_value field)) (pointwise nat_eq) };
 /// ```
-/// [`raw_value`]
+/// [Notation](crate::definitions): [`raw_value`]
 /// </details>
 impl<T: Scalar> PartialEq for BigEndian<T> {
     #[inline]
@@ -243,7 +244,7 @@ impl<T: Scalar> Eq for BigEndian<T> {}
 /// ```text
 /// ghost hash_input = { λ field. fed.slice fed.u8 (T.Raw.bytes (raw_value field)) };
 /// ```
-/// [`raw_value`]
+/// [Notation](crate::definitions): [`raw_value`]
 /// </details>
 impl<T: Scalar> Hash for BigEndian<T> {
     #[inline]
@@ -257,7 +258,7 @@ impl<T: Scalar> Hash for BigEndian<T> {
 /// ```text
 /// ghost partial_cmp = { λ a b. Some (T.cmp (T.of_raw (raw_value a)) (T.of_raw (raw_value b))) };
 /// ```
-/// [`raw_value`]
+/// [Notation](crate::definitions): [`raw_value`]
 /// </details>
 impl<T: Scalar + Copy + Ord + IdentityEq> PartialOrd for BigEndian<T> {
     #[inline]
@@ -271,7 +272,7 @@ impl<T: Scalar + Copy + Ord + IdentityEq> PartialOrd for BigEndian<T> {
 /// ```text
 /// ghost cmp = { on (λ field. T.of_raw (raw_value field)) T.cmp };
 /// ```
-/// [`raw_value`]
+/// [Notation](crate::definitions): [`raw_value`]
 /// </details>
 impl<T: Scalar + Copy + Ord + IdentityEq> Ord for BigEndian<T> {
     #[inline]
@@ -285,7 +286,7 @@ impl<T: Scalar + Copy + Ord + IdentityEq> Ord for BigEndian<T> {
 /// ```text
 /// ghost is_default = { λ field. T.is_default (T.of_raw (raw_value field)) };
 /// ```
-/// [`raw_value`]
+/// [Notation](crate::definitions): [`raw_value`]
 /// </details>
 impl<T: Scalar + Default> Default for BigEndian<T> {
     #[inline]
@@ -299,7 +300,7 @@ impl<T: Scalar + Default> Default for BigEndian<T> {
 /// ```text
 /// ghost output = { λ field. T.output (T.of_raw (raw_value field)) };
 /// ```
-/// [`raw_value`]
+/// [Notation](crate::definitions): [`raw_value`]
 /// </details>
 impl<T: Scalar + Copy + fmt::Display> fmt::Display for BigEndian<T> {
     fn fmt(&self, f: &mut fmt::Formatter<'_>) -> fmt::Result {
@@ -312,7 +313,7 @@ impl<T: Scalar + Copy + fmt::Display> fmt::Display for BigEndian<T> {
 /// ```text
 /// ghost debug_output = { λ field. T.debug_output (T.of_raw (raw_value field)) };
 /// ```
-/// [`raw_value`]
+/// [Notation](crate::definitions): [`raw_value`]
 /// </details>
 impl<T: Scalar + Copy + fmt::Debug> fmt::Debug for BigEndian<T> {
     fn fmt(&self, f: &mut fmt::Formatter<'_>) -> fmt::Result {

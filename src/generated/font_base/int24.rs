@@ -36,6 +36,7 @@ use core::fmt;
 /// ghost low: { neg_ℤ (pos 8388608) ≤ℤ value },
 /// ghost high: { value <ℤ pos 8388608 },
 /// ```
+/// [Notation](crate::definitions)
 /// </details>
 #[derive(Clone, Copy, PartialEq, Eq, PartialOrd, Ord, Hash)]
 pub struct Int24 {
@@ -56,7 +57,7 @@ impl Int24 {
     /// ```text
     /// ensures { int24_number result ≡ int_max INT24_MIN (int_min raw INT24_MAX) }
     /// ```
-    /// [`int24_number`], [`INT24_MIN`], [`INT24_MAX`]
+    /// [Notation](crate::definitions): [`int24_number`], [`INT24_MIN`], [`INT24_MAX`]
     /// </details>
     #[must_use]
     #[inline]
@@ -78,7 +79,7 @@ impl Int24 {
     /// ensures variant { IsSome result ↔ ((INT24_MIN ≤ℤ raw) × (raw ≤ℤ INT24_MAX)) }
     /// ensures value { IfSome result (λ n. int24_number n ≡ raw) }
     /// ```
-    /// [`INT24_MIN`], [`INT24_MAX`], [`int24_number`]
+    /// [Notation](crate::definitions): [`INT24_MIN`], [`INT24_MAX`], [`int24_number`]
     /// </details>
     #[must_use]
     #[inline]
@@ -97,7 +98,7 @@ impl Int24 {
     /// ```text
     /// ensures { result ≡ int24_number self }
     /// ```
-    /// [`int24_number`]
+    /// [Notation](crate::definitions): [`int24_number`]
     /// </details>
     #[must_use]
     #[inline]
@@ -112,7 +113,7 @@ impl Int24 {
     /// ```text
     /// ensures { result ≡ bytes_of 3 (int24_number self) }
     /// ```
-    /// [`bytes_of`], [`int24_number`]
+    /// [Notation](crate::definitions): [`bytes_of`], [`int24_number`]
     /// </details>
     #[must_use]
     #[inline]
@@ -129,7 +130,7 @@ impl Int24 {
     /// ensures bytes { bytes ≡ bytes_of 3 (int24_number result) }
     /// ensures number { int24_number result ≡ signed_numeral 3 bytes }
     /// ```
-    /// [`bytes_of`], [`int24_number`], [`signed_numeral`]
+    /// [Notation](crate::definitions): [`bytes_of`], [`int24_number`], [`signed_numeral`]
     /// </details>
     #[must_use]
     #[inline]
@@ -145,7 +146,7 @@ impl Int24 {
 /// ```text
 /// ghost is_default = { λ n. int24_number n ≡ pos 0 };
 /// ```
-/// [`int24_number`]
+/// [Notation](crate::definitions): [`int24_number`]
 /// </details>
 impl Default for Int24 {
     #[inline]
@@ -160,7 +161,7 @@ impl Default for Int24 {
 /// ghost debug_output = { λ n. Some
 ///     (codes "Int24(" ++ signed_decimal (int24_number n) ++ codes ")") };
 /// ```
-/// [`int24_number`]
+/// [Notation](crate::definitions): [`int24_number`]
 /// </details>
 impl fmt::Debug for Int24 {
     fn fmt(&self, f: &mut fmt::Formatter<'_>) -> fmt::Result {
@@ -173,7 +174,7 @@ impl fmt::Debug for Int24 {
 /// ```text
 /// ghost output = { λ n. Some (signed_decimal (int24_number n)) };
 /// ```
-/// [`int24_number`]
+/// [Notation](crate::definitions): [`int24_number`]
 /// </details>
 impl fmt::Display for Int24 {
     fn fmt(&self, f: &mut fmt::Formatter<'_>) -> fmt::Result {
@@ -186,7 +187,7 @@ impl fmt::Display for Int24 {
 /// ```text
 /// ghost from_gives = { λ n number. number ≡ int24_number n };
 /// ```
-/// [`int24_number`]
+/// [Notation](crate::definitions): [`int24_number`]
 /// </details>
 impl From<Int24> for i32 {
     #[inline]
@@ -206,7 +207,7 @@ impl FixedSize for Int24 {
 /// ghost of_raw = { int24_of_bytes };
 /// ghost raw_of = { bytes_of_int24 };
 /// ```
-/// [`int24_of_bytes`], [`bytes_of_int24`]
+/// [Notation](crate::definitions): [`int24_of_bytes`], [`bytes_of_int24`]
 /// </details>
 impl Scalar for Int24 {
     type Raw = [u8; 3];

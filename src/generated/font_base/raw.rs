@@ -44,6 +44,7 @@ use crate::definitions::font_base::Wrap::fits_bits;
 /// ghost same_bytes: { (a b : Self) → IsTrue (is_value a) → IsTrue (is_value b) → bytes a ≡ bytes b
 ///     → a ≡ b };
 /// ```
+/// [Notation](crate::definitions)
 /// </details>
 pub trait BeByteArray: Copy {
     /// The number of bytes.
@@ -58,6 +59,7 @@ pub trait BeByteArray: Copy {
     /// ensures value { IfSome result (λ array. IsTrue (is_value array)) }
     /// ensures bytes { IfSome result (λ array. bytes array ≡ slice.now) }
     /// ```
+    /// [Notation](crate::definitions)
     /// </details>
     #[must_use]
     fn from_slice(slice: &[u8]) -> Option<Self>;
@@ -71,6 +73,7 @@ pub trait BeByteArray: Copy {
     /// ensures length { length result.now ≡ LEN }
     /// ensures value { IsTrue (is_value self.now) }
     /// ```
+    /// [Notation](crate::definitions)
     /// </details>
     #[must_use]
     fn as_slice(&self) -> &[u8];
@@ -82,6 +85,7 @@ pub trait BeByteArray: Copy {
     /// ```text
     /// ensures { result ≡ pointwise nat_eq (bytes self.now) (bytes other.now) }
     /// ```
+    /// [Notation](crate::definitions)
     /// </details>
     #[must_use]
     #[inline]
@@ -96,7 +100,7 @@ pub trait BeByteArray: Copy {
 /// ghost bytes = { λ a. a };
 /// ghost is_value = { are_bytes N };
 /// ```
-/// [`are_bytes`]
+/// [Notation](crate::definitions): [`are_bytes`]
 /// </details>
 impl<const N: usize> BeByteArray for [u8; N] {
     const LEN: usize = N;
@@ -155,7 +159,7 @@ pub trait ByteChunks: BeByteArray {
     /// ensures bytes { flat_map Self.bytes result.0.now ++ result.1.now ≡ bytes.now }
     /// ensures left { length result.1.now ≡ length bytes.now % Self.LEN }
     /// ```
-    /// [`AreRaw`]
+    /// [Notation](crate::definitions): [`AreRaw`]
     /// </details>
     #[must_use]
     fn as_chunks(bytes: &[u8]) -> (&[Self], &[u8]);
@@ -167,6 +171,7 @@ pub trait ByteChunks: BeByteArray {
     /// ```text
     /// ensures { result.now ≡ flat_map Self.bytes arrays.now }
     /// ```
+    /// [Notation](crate::definitions)
     /// </details>
     #[must_use]
     fn as_flattened(arrays: &[Self]) -> &[u8];
@@ -238,7 +243,7 @@ pub trait FixedSize: Sized {
 /// ghost laws: { ScalarLaws is_scalar Self.Raw.is_value of_raw raw_of
 ///     Self.Raw.LEN Self.RAW_BYTE_LEN };
 /// ```
-/// [`ScalarLaws`]
+/// [Notation](crate::definitions): [`ScalarLaws`]
 /// </details>
 pub trait Scalar: FixedSize {
     /// The raw bytes.
@@ -251,6 +256,7 @@ pub trait Scalar: FixedSize {
     /// ```text
     /// ensures { result ≡ of_raw raw }
     /// ```
+    /// [Notation](crate::definitions)
     /// </details>
     #[must_use]
     fn from_raw(raw: Self::Raw) -> Self;
@@ -263,6 +269,7 @@ pub trait Scalar: FixedSize {
     /// ensures raw { result ≡ raw_of self }
     /// ensures value { IsTrue (is_scalar self) }
     /// ```
+    /// [Notation](crate::definitions)
     /// </details>
     #[must_use]
     fn to_raw(self) -> Self::Raw;
@@ -277,7 +284,7 @@ pub trait Scalar: FixedSize {
     /// ensures reads { IfSome result (λ v. IsValueOf Self.Raw.bytes of_raw slice.now v) }
     /// ensures value { IfSome result (λ v. IsTrue (is_scalar v)) }
     /// ```
-    /// [`IsValueOf`]
+    /// [Notation](crate::definitions): [`IsValueOf`]
     /// </details>
     #[must_use]
     #[inline]
@@ -306,7 +313,7 @@ pub trait Scalar: FixedSize {
     ///     IsValueOf Self.Raw.bytes of_raw (take Self.RAW_BYTE_LEN (drop offset bytes.now)) v) }
     /// ensures value { IfSome result (λ v. IsTrue (is_scalar v)) }
     /// ```
-    /// [`IsValueOf`]
+    /// [Notation](crate::definitions): [`IsValueOf`]
     /// </details>
     #[must_use]
     #[inline]
@@ -336,6 +343,7 @@ pub trait Scalar: FixedSize {
     ///     ≡ drop (offset + Self.RAW_BYTE_LEN) bytes.old }
     /// ensures kept { IfNone result (bytes.new ≡ bytes.old) }
     /// ```
+    /// [Notation](crate::definitions)
     /// </details>
     #[must_use]
     #[inline]
@@ -366,6 +374,7 @@ pub trait Scalar: FixedSize {
 /// ```text
 /// ghost identity: { (a b : Self) → Decides (Self.eq a b) (a ≡ b) };
 /// ```
+/// [Notation](crate::definitions)
 /// </details>
 pub trait IdentityEq: Eq {}
 
@@ -380,7 +389,7 @@ impl FixedSize for u8 {
 /// ghost of_raw = { numeral };
 /// ghost raw_of = { λ n. bytes_of 1 (pos n) };
 /// ```
-/// [`numeral`], [`bytes_of`]
+/// [Notation](crate::definitions): [`numeral`], [`bytes_of`]
 /// </details>
 impl Scalar for u8 {
     type Raw = [u8; 1];
@@ -409,7 +418,7 @@ impl FixedSize for u16 {
 /// ghost of_raw = { numeral };
 /// ghost raw_of = { λ n. bytes_of 2 (pos n) };
 /// ```
-/// [`numeral`], [`bytes_of`]
+/// [Notation](crate::definitions): [`numeral`], [`bytes_of`]
 /// </details>
 impl Scalar for u16 {
     type Raw = [u8; 2];
@@ -438,7 +447,7 @@ impl FixedSize for u32 {
 /// ghost of_raw = { numeral };
 /// ghost raw_of = { λ n. bytes_of 4 (pos n) };
 /// ```
-/// [`numeral`], [`bytes_of`]
+/// [Notation](crate::definitions): [`numeral`], [`bytes_of`]
 /// </details>
 impl Scalar for u32 {
     type Raw = [u8; 4];
@@ -467,7 +476,7 @@ impl FixedSize for i8 {
 /// ghost of_raw = { signed_numeral 1 };
 /// ghost raw_of = { bytes_of 1 };
 /// ```
-/// [`fits_bits`], [`signed_numeral`], [`bytes_of`]
+/// [Notation](crate::definitions): [`fits_bits`], [`signed_numeral`], [`bytes_of`]
 /// </details>
 impl Scalar for i8 {
     type Raw = [u8; 1];
@@ -496,7 +505,7 @@ impl FixedSize for i16 {
 /// ghost of_raw = { signed_numeral 2 };
 /// ghost raw_of = { bytes_of 2 };
 /// ```
-/// [`fits_bits`], [`signed_numeral`], [`bytes_of`]
+/// [Notation](crate::definitions): [`fits_bits`], [`signed_numeral`], [`bytes_of`]
 /// </details>
 impl Scalar for i16 {
     type Raw = [u8; 2];
@@ -525,7 +534,7 @@ impl FixedSize for i32 {
 /// ghost of_raw = { signed_numeral 4 };
 /// ghost raw_of = { bytes_of 4 };
 /// ```
-/// [`fits_bits`], [`signed_numeral`], [`bytes_of`]
+/// [Notation](crate::definitions): [`fits_bits`], [`signed_numeral`], [`bytes_of`]
 /// </details>
 impl Scalar for i32 {
     type Raw = [u8; 4];
@@ -554,7 +563,7 @@ impl FixedSize for i64 {
 /// ghost of_raw = { signed_numeral 8 };
 /// ghost raw_of = { bytes_of 8 };
 /// ```
-/// [`fits_bits`], [`signed_numeral`], [`bytes_of`]
+/// [Notation](crate::definitions): [`fits_bits`], [`signed_numeral`], [`bytes_of`]
 /// </details>
 impl Scalar for i64 {
     type Raw = [u8; 8];

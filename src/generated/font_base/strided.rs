@@ -29,6 +29,7 @@ use core::slice::ChunksExact;
 ///     chunks_exact_rest records ≡ take (count * size) (drop offset bytes.now)) }
 /// ensures size { IfSome result (λ records. chunks_exact_size records ≡ size) }
 /// ```
+/// [Notation](crate::definitions)
 /// </details>
 #[must_use]
 #[inline]

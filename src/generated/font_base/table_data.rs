@@ -52,6 +52,7 @@ use core::marker::PhantomData;
 /// // these bytes are the encoded header
 /// ghost decodes: { List ℕ → Self → Type 0 };
 /// ```
+/// [Notation](crate::definitions)
 /// </details>
 pub trait TableHeader: Sized {
     /// The size of the header, in bytes.
@@ -65,6 +66,7 @@ pub trait TableHeader: Sized {
     /// requires { length bytes.now ≡ BYTE_LEN }
     /// ensures { decodes bytes.now result }
     /// ```
+    /// [Notation](crate::definitions)
     /// </details>
     #[must_use]
     fn decode(bytes: &[u8]) -> Self;
@@ -100,6 +102,7 @@ pub trait TableHeader: Sized {
 /// ```text
 /// ghost long: { H.BYTE_LEN ≤ length «data».now },
 /// ```
+/// [Notation](crate::definitions)
 /// </details>
 pub struct TableDataRef<'a, H: TableHeader> {
     data: &'a [u8],
@@ -115,7 +118,7 @@ impl<'a, H: TableHeader> TableDataRef<'a, H> {
     /// ensures variant { IsSome result ↔ (H.BYTE_LEN ≤ length «data».now) }
     /// ensures bytes { IfSome result (λ table. table_bytes table ≡ «data».now) }
     /// ```
-    /// [`table_bytes`]
+    /// [Notation](crate::definitions): [`table_bytes`]
     /// </details>
     #[must_use]
     #[inline(always)]
@@ -133,7 +136,7 @@ impl<'a, H: TableHeader> TableDataRef<'a, H> {
     /// ```text
     /// ensures { H.decodes (take H.BYTE_LEN (table_bytes self.now)) result }
     /// ```
-    /// [`table_bytes`]
+    /// [Notation](crate::definitions): [`table_bytes`]
     /// </details>
     #[must_use]
     #[inline(always)]
@@ -148,7 +151,7 @@ impl<'a, H: TableHeader> TableDataRef<'a, H> {
     /// ```text
     /// ensures { result.now ≡ table_bytes self.now }
     /// ```
-    /// [`table_bytes`]
+    /// [Notation](crate::definitions): [`table_bytes`]
     /// </details>
     #[must_use]
     #[inline(always)]
@@ -163,7 +166,7 @@ impl<'a, H: TableHeader> TableDataRef<'a, H> {
     /// ```text
     /// ensures { result.now ≡ drop H.BYTE_LEN (table_bytes self.now) }
     /// ```
-    /// [`table_bytes`]
+    /// [Notation](crate::definitions): [`table_bytes`]
     /// </details>
     #[must_use]
     #[inline]
@@ -179,7 +182,7 @@ impl<'a, H: TableHeader> TableDataRef<'a, H> {
     /// ensures header { H.decodes (take H.BYTE_LEN (table_bytes self.now)) result.0 }
     /// ensures rest { result.1.now ≡ drop H.BYTE_LEN (table_bytes self.now) }
     /// ```
-    /// [`table_bytes`]
+    /// [Notation](crate::definitions): [`table_bytes`]
     /// </details>
     #[must_use]
     #[inline]
@@ -214,7 +217,7 @@ pub struct SampleHeader {
 /// ```text
 /// ghost decodes = { IsSampleHeader };
 /// ```
-/// [`IsSampleHeader`]
+/// [Notation](crate::definitions): [`IsSampleHeader`]
 /// </details>
 impl TableHeader for SampleHeader {
     const BYTE_LEN: usize = 6;

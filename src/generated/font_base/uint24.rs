@@ -33,6 +33,7 @@ use core::fmt;
 /// ```text
 /// ghost in_range: { value < 2 ^ 24 },
 /// ```
+/// [Notation](crate::definitions)
 /// </details>
 #[derive(Clone, Copy, PartialEq, Eq, PartialOrd, Ord, Hash)]
 pub struct Uint24 {
@@ -53,7 +54,7 @@ impl Uint24 {
     /// ```text
     /// ensures { uint24_number result ≡ min raw UINT24_MAX }
     /// ```
-    /// [`uint24_number`], [`UINT24_MAX`]
+    /// [Notation](crate::definitions): [`uint24_number`], [`UINT24_MAX`]
     /// </details>
     #[must_use]
     #[inline]
@@ -69,7 +70,7 @@ impl Uint24 {
     /// ensures variant { IsSome result ↔ (raw ≤ UINT24_MAX) }
     /// ensures value { IfSome result (λ n. uint24_number n ≡ raw) }
     /// ```
-    /// [`UINT24_MAX`], [`uint24_number`]
+    /// [Notation](crate::definitions): [`UINT24_MAX`], [`uint24_number`]
     /// </details>
     #[must_use]
     #[inline]
@@ -84,7 +85,7 @@ impl Uint24 {
     /// ```text
     /// ensures { result ≡ uint24_number self }
     /// ```
-    /// [`uint24_number`]
+    /// [Notation](crate::definitions): [`uint24_number`]
     /// </details>
     #[must_use]
     #[inline]
@@ -99,7 +100,7 @@ impl Uint24 {
     /// ```text
     /// ensures { result ≡ bytes_of 3 (pos (uint24_number self)) }
     /// ```
-    /// [`bytes_of`], [`uint24_number`]
+    /// [Notation](crate::definitions): [`bytes_of`], [`uint24_number`]
     /// </details>
     #[must_use]
     #[inline]
@@ -116,7 +117,7 @@ impl Uint24 {
     /// ensures bytes { bytes ≡ bytes_of 3 (pos (uint24_number result)) }
     /// ensures number { uint24_number result ≡ numeral bytes }
     /// ```
-    /// [`bytes_of`], [`uint24_number`], [`numeral`]
+    /// [Notation](crate::definitions): [`bytes_of`], [`uint24_number`], [`numeral`]
     /// </details>
     #[must_use]
     #[inline]
@@ -132,7 +133,7 @@ impl Uint24 {
 /// ```text
 /// ghost is_default = { λ n. uint24_number n ≡ 0 };
 /// ```
-/// [`uint24_number`]
+/// [Notation](crate::definitions): [`uint24_number`]
 /// </details>
 impl Default for Uint24 {
     #[inline]
@@ -146,7 +147,7 @@ impl Default for Uint24 {
 /// ```text
 /// ghost debug_output = { λ n. Some (codes "Uint24(" ++ decimal (uint24_number n) ++ codes ")") };
 /// ```
-/// [`uint24_number`]
+/// [Notation](crate::definitions): [`uint24_number`]
 /// </details>
 impl fmt::Debug for Uint24 {
     fn fmt(&self, f: &mut fmt::Formatter<'_>) -> fmt::Result {
@@ -159,7 +160,7 @@ impl fmt::Debug for Uint24 {
 /// ```text
 /// ghost output = { λ n. Some (decimal (uint24_number n)) };
 /// ```
-/// [`uint24_number`]
+/// [Notation](crate::definitions): [`uint24_number`]
 /// </details>
 impl fmt::Display for Uint24 {
     fn fmt(&self, f: &mut fmt::Formatter<'_>) -> fmt::Result {
@@ -172,7 +173,7 @@ impl fmt::Display for Uint24 {
 /// ```text
 /// ghost from_gives = { λ n number. number ≡ uint24_number n };
 /// ```
-/// [`uint24_number`]
+/// [Notation](crate::definitions): [`uint24_number`]
 /// </details>
 impl From<Uint24> for u32 {
     #[inline]
@@ -186,7 +187,7 @@ impl From<Uint24> for u32 {
 /// ```text
 /// ghost from_gives = { λ n number. number ≡ uint24_number n };
 /// ```
-/// [`uint24_number`]
+/// [Notation](crate::definitions): [`uint24_number`]
 /// </details>
 impl From<Uint24> for usize {
     #[inline]
@@ -220,7 +221,7 @@ impl core::fmt::Display for TryFromUint24Error {
 ///     (λ n. uint24_number n ≡ number)
 ///     (λ _. UINT24_MAX < number) };
 /// ```
-/// [`uint24_number`], [`UINT24_MAX`]
+/// [Notation](crate::definitions): [`uint24_number`], [`UINT24_MAX`]
 /// </details>
 impl TryFrom<usize> for Uint24 {
     type Error = TryFromUint24Error;
@@ -246,7 +247,7 @@ impl FixedSize for Uint24 {
 /// ghost of_raw = { uint24_of_bytes };
 /// ghost raw_of = { bytes_of_uint24 };
 /// ```
-/// [`uint24_of_bytes`], [`bytes_of_uint24`]
+/// [Notation](crate::definitions): [`uint24_of_bytes`], [`bytes_of_uint24`]
 /// </details>
 impl Scalar for Uint24 {
     type Raw = [u8; 3];

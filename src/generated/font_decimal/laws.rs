@@ -33,7 +33,7 @@ use crate::font_decimal::{DecimalFault, Shortest, read_decimal};
 /// ensures in_order { (a b : ℤ) → result.0 ≡ Ok a → result.1 ≡ Ok b → IsAtMost s.now t.now
 ///     → a ≤ℤ b }
 /// ```
-/// [`Parses`], [`IsAtMost`]
+/// [Notation](crate::definitions): [`Parses`], [`IsAtMost`]
 /// </details>
 #[inline]
 pub fn reads_in_order(
@@ -60,7 +60,7 @@ pub fn reads_in_order(
 /// ensures second { shown result.1 ≡ shortest_text b f }
 /// ensures in_order { a ≤ℤ b → IsAtMost (shown result.0) (shown result.1) }
 /// ```
-/// [`shown`], [`shortest_text`], [`IsAtMost`]
+/// [Notation](crate::definitions): [`shown`], [`shortest_text`], [`IsAtMost`]
 /// </details>
 #[must_use]
 #[inline]
@@ -90,7 +90,7 @@ pub fn prints_in_order(a: i64, b: i64, f: u32) -> (Shortest, Shortest) {
 /// ensures again { (n : ℤ) (k : ℕ) → Tidy text.now n k → 10 ^ k < 2 ^ f
 ///     → IfOk result (λ s. shown s ≡ text.now) }
 /// ```
-/// [`Reads`], [`shown`], [`shortest_text`], [`Parses`], [`Tidy`]
+/// [Notation](crate::definitions): [`Reads`], [`shown`], [`shortest_text`], [`Parses`], [`Tidy`]
 /// </details>
 #[inline]
 pub fn printed_again(text: &str, f: u32, min: i64, max: i64) -> Result<Shortest, DecimalFault> {

@@ -62,6 +62,7 @@ impl Pad {
     ///   zeros = false;
     /// } }
     /// ```
+    /// [Notation](crate::definitions)
     /// </details>
     #[must_use]
     #[inline]
@@ -85,7 +86,7 @@ impl Pad {
 ///     → IfSome result (λ _. out.new ≡ padded_text text.now pad.now) }
 /// ensures untouched { IfNone result (out.new ≡ out.old) }
 /// ```
-/// [`FillsFront`], [`padded_text`]
+/// [Notation](crate::definitions): [`FillsFront`], [`padded_text`]
 /// </details>
 #[must_use]
 #[inline]

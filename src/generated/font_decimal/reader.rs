@@ -105,7 +105,7 @@ impl Copy for DecimalFault {}
 ///     ↔ IsOutOfRange text.now f min max }
 /// ensures syntax { (result ≡ Err DecimalFault.Syntax) ↔ IsNoDecimal text.now }
 /// ```
-/// [`Reads`], [`IsOutOfRange`], [`IsNoDecimal`]
+/// [Notation](crate::definitions): [`Reads`], [`IsOutOfRange`], [`IsNoDecimal`]
 /// </details>
 #[inline(always)]
 pub const fn read_decimal(text: &str, f: u32, min: i64, max: i64) -> Result<i64, DecimalFault> {
@@ -128,7 +128,7 @@ pub const fn read_decimal(text: &str, f: u32, min: i64, max: i64) -> Result<i64,
 /// requires bits_of_fraction { (6 ≤ f) × (f ≤ 30) }
 /// ensures { Parses text.now f min max result }
 /// ```
-/// [`Parses`]
+/// [Notation](crate::definitions): [`Parses`]
 /// </details>
 #[inline(always)]
 pub const fn read_decimal_bytes(

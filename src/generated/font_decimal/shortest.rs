@@ -30,6 +30,7 @@ const POINT: usize = 20;
 /// ghost within: { (start ≤ end) × (end ≤ LEN) × (end ≤ start + 22) },
 /// ghost ascii: { IsAscii (take (end - start) (drop start bytes)) },
 /// ```
+/// [Notation](crate::definitions)
 /// </details>
 #[derive(Clone, Copy)]
 pub struct Shortest {
@@ -57,7 +58,7 @@ impl Shortest {
     /// ensures shortest { IsShortest bits f (shown result) }
     /// ensures text { shown result ≡ shortest_text bits f }
     /// ```
-    /// [`IsShortest`], [`shown`], [`shortest_text`]
+    /// [Notation](crate::definitions): [`IsShortest`], [`shown`], [`shortest_text`]
     /// </details>
     #[must_use]
     #[inline(always)]
@@ -82,7 +83,7 @@ impl Shortest {
     /// ensures text { result.now ≡ shown self.now }
     /// ensures short { length result.now ≤ 22 }
     /// ```
-    /// [`shown`]
+    /// [Notation](crate::definitions): [`shown`]
     /// </details>
     #[must_use]
     #[inline]
@@ -97,7 +98,7 @@ impl Shortest {
 /// ```text
 /// ghost output = { λ s. Some (shown s) };
 /// ```
-/// [`shown`]
+/// [Notation](crate::definitions): [`shown`]
 /// </details>
 impl fmt::Display for Shortest {
     fn fmt(&self, f: &mut fmt::Formatter<'_>) -> fmt::Result {

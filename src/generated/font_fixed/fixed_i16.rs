@@ -85,7 +85,7 @@ impl<const F: u32> FixedSize for FixedI16<F> {
 /// ghost of_raw = { λ bytes. of_bits (signed_numeral 2 bytes) };
 /// ghost raw_of = { λ x. bytes_of 2 (bits_of x) };
 /// ```
-/// [`fits_bits`], [`bits_of`], [`of_bits`], [`signed_numeral`], [`bytes_of`]
+/// [Notation](crate::definitions): [`fits_bits`], [`bits_of`], [`of_bits`], [`signed_numeral`], [`bytes_of`]
 /// </details>
 impl<const F: u32> Scalar for FixedI16<F> {
     type Raw = [u8; 2];
@@ -111,7 +111,7 @@ impl<const F: u32> FixedI16<F> {
     /// ```text
     /// ensures { bits_of result ≡ bits }
     /// ```
-    /// [`bits_of`]
+    /// [Notation](crate::definitions): [`bits_of`]
     /// </details>
     #[must_use]
     #[inline(always)]
@@ -126,7 +126,7 @@ impl<const F: u32> FixedI16<F> {
     /// ```text
     /// ensures { result ≡ bits_of self.entry }
     /// ```
-    /// [`bits_of`]
+    /// [Notation](crate::definitions): [`bits_of`]
     /// </details>
     #[must_use]
     #[inline(always)]
@@ -141,7 +141,7 @@ impl<const F: u32> FixedI16<F> {
     /// ```text
     /// ensures { WrapsTo 16 (pos (unsigned_abs (bits_of self.entry))) (bits_of result) }
     /// ```
-    /// [`WrapsTo`], [`bits_of`]
+    /// [Notation](crate::definitions): [`WrapsTo`], [`bits_of`]
     /// </details>
     #[must_use]
     #[inline(always)]
@@ -156,7 +156,7 @@ impl<const F: u32> FixedI16<F> {
     /// ```text
     /// ensures { WrapsTo 16 (bits_of self.entry +ℤ bits_of other.entry) (bits_of result) }
     /// ```
-    /// [`WrapsTo`], [`bits_of`]
+    /// [Notation](crate::definitions): [`WrapsTo`], [`bits_of`]
     /// </details>
     #[must_use]
     #[inline(always)]
@@ -171,7 +171,7 @@ impl<const F: u32> FixedI16<F> {
     /// ```text
     /// ensures { WrapsTo 16 (bits_of self.entry -ℤ bits_of other.entry) (bits_of result) }
     /// ```
-    /// [`WrapsTo`], [`bits_of`]
+    /// [Notation](crate::definitions): [`WrapsTo`], [`bits_of`]
     /// </details>
     #[must_use]
     #[inline(always)]
@@ -186,7 +186,7 @@ impl<const F: u32> FixedI16<F> {
     /// ```text
     /// ensures { bits_of result ≡ clamp 16 (bits_of self.entry +ℤ bits_of other.entry) }
     /// ```
-    /// [`bits_of`], [`clamp`]
+    /// [Notation](crate::definitions): [`bits_of`], [`clamp`]
     /// </details>
     #[must_use]
     #[inline(always)]
@@ -201,7 +201,7 @@ impl<const F: u32> FixedI16<F> {
     /// ```text
     /// ensures { bits_of result ≡ clamp 16 (bits_of self.entry -ℤ bits_of other.entry) }
     /// ```
-    /// [`bits_of`], [`clamp`]
+    /// [Notation](crate::definitions): [`bits_of`], [`clamp`]
     /// </details>
     #[must_use]
     #[inline(always)]
@@ -218,7 +218,7 @@ impl<const F: u32> FixedI16<F> {
     /// ensures value { IfSome result
     ///     (λ sum. bits_of sum ≡ (bits_of self.entry +ℤ bits_of other.entry)) }
     /// ```
-    /// [`FitsBits`], [`bits_of`]
+    /// [Notation](crate::definitions): [`FitsBits`], [`bits_of`]
     /// </details>
     #[must_use]
     #[inline(always)]
@@ -238,7 +238,7 @@ impl<const F: u32> FixedI16<F> {
     /// ensures value { IfSome result
     ///     (λ difference. bits_of difference ≡ (bits_of self.entry -ℤ bits_of other.entry)) }
     /// ```
-    /// [`FitsBits`], [`bits_of`]
+    /// [Notation](crate::definitions): [`FitsBits`], [`bits_of`]
     /// </details>
     #[must_use]
     #[inline(always)]
@@ -257,7 +257,7 @@ impl<const F: u32> FixedI16<F> {
     /// ensures variant { IsSome result ↔ FitsBits 16 (neg_ℤ (bits_of self.entry)) }
     /// ensures value { IfSome result (λ negated. bits_of negated ≡ neg_ℤ (bits_of self.entry)) }
     /// ```
-    /// [`FitsBits`], [`bits_of`]
+    /// [Notation](crate::definitions): [`FitsBits`], [`bits_of`]
     /// </details>
     #[must_use]
     #[inline(always)]
@@ -277,7 +277,7 @@ impl<const F: u32> FixedI16<F> {
     /// ensures value { IfSome result
     ///     (λ magnitude. bits_of magnitude ≡ pos (unsigned_abs (bits_of self.entry))) }
     /// ```
-    /// [`FitsBits`], [`bits_of`]
+    /// [Notation](crate::definitions): [`FitsBits`], [`bits_of`]
     /// </details>
     #[must_use]
     #[inline(always)]
@@ -295,7 +295,7 @@ impl<const F: u32> FixedI16<F> {
     /// ```text
     /// ensures { result ≡ bytes_of 2 (bits_of self.entry) }
     /// ```
-    /// [`bytes_of`], [`bits_of`]
+    /// [Notation](crate::definitions): [`bytes_of`], [`bits_of`]
     /// </details>
     #[must_use]
     #[inline(always)]
@@ -315,7 +315,7 @@ where
     /// ```text
     /// ensures nearest { IsNearestWhole 16 F (bits_of self.entry) (bits_of result) }
     /// ```
-    /// [`IsNearestWhole`], [`bits_of`]
+    /// [Notation](crate::definitions): [`IsNearestWhole`], [`bits_of`]
     /// </details>
     #[must_use]
     #[inline(always)]
@@ -331,7 +331,7 @@ where
     /// ensures variant { IsSome result ↔ FitsBits 16 (rounded F (bits_of self.entry)) }
     /// ensures value { IfSome result (λ whole. bits_of whole ≡ rounded F (bits_of self.entry)) }
     /// ```
-    /// [`FitsBits`], [`rounded`], [`bits_of`]
+    /// [Notation](crate::definitions): [`FitsBits`], [`rounded`], [`bits_of`]
     /// </details>
     #[must_use]
     #[inline(always)]
@@ -349,7 +349,7 @@ where
     /// ```text
     /// ensures { IsFloor F (bits_of self.entry) (bits_of result) }
     /// ```
-    /// [`IsFloor`], [`bits_of`]
+    /// [Notation](crate::definitions): [`IsFloor`], [`bits_of`]
     /// </details>
     #[must_use]
     #[inline(always)]
@@ -364,7 +364,7 @@ where
     /// ```text
     /// ensures { IsFract F (bits_of self.entry) (bits_of result) }
     /// ```
-    /// [`IsFract`], [`bits_of`]
+    /// [Notation](crate::definitions): [`IsFract`], [`bits_of`]
     /// </details>
     #[must_use]
     #[inline(always)]
@@ -387,7 +387,7 @@ where
     /// ```text
     /// ensures { ParsesFixedPoint w16 F bits_of text.now result }
     /// ```
-    /// [`ParsesFixedPoint`], [`bits_of`]
+    /// [Notation](crate::definitions): [`ParsesFixedPoint`], [`bits_of`]
     /// </details>
     #[inline]
     pub const fn from_decimal(text: &str) -> Result<Self, DecimalFault> {
@@ -405,7 +405,7 @@ where
     /// ```text
     /// ensures { ParsesFixedPoint w16 F bits_of text.now result }
     /// ```
-    /// [`ParsesFixedPoint`], [`bits_of`]
+    /// [Notation](crate::definitions): [`ParsesFixedPoint`], [`bits_of`]
     /// </details>
     #[inline]
     pub const fn from_decimal_bytes(text: &[u8]) -> Result<Self, DecimalFault> {
@@ -429,7 +429,7 @@ where
     /// ensures shortest { IsShortest (bits_of self.entry) F (shown result) }
     /// ensures text { shown result ≡ text_of self.entry }
     /// ```
-    /// [`IsShortest`], [`bits_of`], [`shown`], [`text_of`]
+    /// [Notation](crate::definitions): [`IsShortest`], [`bits_of`], [`shown`], [`text_of`]
     /// </details>
     #[must_use]
     #[inline]
@@ -445,7 +445,7 @@ where
     /// ```text
     /// ensures { result ≡ longest 16 F }
     /// ```
-    /// [`longest`]
+    /// [Notation](crate::definitions): [`longest`]
     /// </details>
     #[must_use]
     #[inline]
@@ -475,7 +475,7 @@ where
     /// ensures cell { max (longest 16 F) pad.now.width ≤ length out.old → IsSome result }
     /// ensures untouched { IfNone result (out.new ≡ out.old) }
     /// ```
-    /// [`FillsFront`], [`padded_text`], [`text_of`], [`longest`]
+    /// [Notation](crate::definitions): [`FillsFront`], [`padded_text`], [`text_of`], [`longest`]
     /// </details>
     #[must_use]
     #[inline]
@@ -491,7 +491,7 @@ where
 /// ```text
 /// ghost add_gives = { λ x y sum. WrapsTo 16 (bits_of x +ℤ bits_of y) (bits_of sum) };
 /// ```
-/// [`WrapsTo`], [`bits_of`]
+/// [Notation](crate::definitions): [`WrapsTo`], [`bits_of`]
 /// </details>
 impl<const F: u32> Add for FixedI16<F> {
     type Output = FixedI16<F>;
@@ -509,7 +509,7 @@ impl<const F: u32> Add for FixedI16<F> {
 /// ```text
 /// ghost add_assign_gives = { λ x y sum. WrapsTo 16 (bits_of x +ℤ bits_of y) (bits_of sum) };
 /// ```
-/// [`WrapsTo`], [`bits_of`]
+/// [Notation](crate::definitions): [`WrapsTo`], [`bits_of`]
 /// </details>
 impl<const F: u32> AddAssign for FixedI16<F> {
     #[inline(always)]
@@ -525,7 +525,7 @@ impl<const F: u32> AddAssign for FixedI16<F> {
 /// ```text
 /// ghost sub_gives = { λ x y rest. WrapsTo 16 (bits_of x -ℤ bits_of y) (bits_of rest) };
 /// ```
-/// [`WrapsTo`], [`bits_of`]
+/// [Notation](crate::definitions): [`WrapsTo`], [`bits_of`]
 /// </details>
 impl<const F: u32> Sub for FixedI16<F> {
     type Output = FixedI16<F>;
@@ -543,7 +543,7 @@ impl<const F: u32> Sub for FixedI16<F> {
 /// ```text
 /// ghost sub_assign_gives = { λ x y rest. WrapsTo 16 (bits_of x -ℤ bits_of y) (bits_of rest) };
 /// ```
-/// [`WrapsTo`], [`bits_of`]
+/// [Notation](crate::definitions): [`WrapsTo`], [`bits_of`]
 /// </details>
 impl<const F: u32> SubAssign for FixedI16<F> {
     #[inline(always)]
@@ -559,7 +559,7 @@ impl<const F: u32> SubAssign for FixedI16<F> {
 /// ```text
 /// ghost neg_gives = { λ x opposite. WrapsTo 16 (neg_ℤ (bits_of x)) (bits_of opposite) };
 /// ```
-/// [`WrapsTo`], [`bits_of`]
+/// [Notation](crate::definitions): [`WrapsTo`], [`bits_of`]
 /// </details>
 impl<const F: u32> Neg for FixedI16<F> {
     type Output = FixedI16<F>;
@@ -577,7 +577,7 @@ impl<const F: u32> Neg for FixedI16<F> {
 /// ```text
 /// ghost from_str_gives = { λ text result. ParsesFixedPoint w16 F bits_of text result };
 /// ```
-/// [`ParsesFixedPoint`], [`bits_of`]
+/// [Notation](crate::definitions): [`ParsesFixedPoint`], [`bits_of`]
 /// </details>
 impl<const F: u32> FromStr for FixedI16<F>
 where
@@ -599,7 +599,7 @@ where
 /// ```text
 /// ghost output = { λ x. Some (text_of x) };
 /// ```
-/// [`text_of`]
+/// [Notation](crate::definitions): [`text_of`]
 /// </details>
 impl<const F: u32> fmt::Display for FixedI16<F>
 where
@@ -615,7 +615,7 @@ where
 /// ```text
 /// ghost debug_output = { λ x. Some (text_of x) };
 /// ```
-/// [`text_of`]
+/// [Notation](crate::definitions): [`text_of`]
 /// </details>
 impl<const F: u32> fmt::Debug for FixedI16<F>
 where

@@ -74,7 +74,7 @@ impl<const F: u32> FixedI32<F> {
     /// ```text
     /// ensures { bits_of result ≡ bits }
     /// ```
-    /// [`bits_of`]
+    /// [Notation](crate::definitions): [`bits_of`]
     /// </details>
     #[must_use]
     #[inline(always)]
@@ -89,7 +89,7 @@ impl<const F: u32> FixedI32<F> {
     /// ```text
     /// ensures { result ≡ bits_of self.entry }
     /// ```
-    /// [`bits_of`]
+    /// [Notation](crate::definitions): [`bits_of`]
     /// </details>
     #[must_use]
     #[inline(always)]
@@ -104,7 +104,7 @@ impl<const F: u32> FixedI32<F> {
     /// ```text
     /// ensures { WrapsTo 32 (pos (unsigned_abs (bits_of self.entry))) (bits_of result) }
     /// ```
-    /// [`WrapsTo`], [`bits_of`]
+    /// [Notation](crate::definitions): [`WrapsTo`], [`bits_of`]
     /// </details>
     #[must_use]
     #[inline(always)]
@@ -119,7 +119,7 @@ impl<const F: u32> FixedI32<F> {
     /// ```text
     /// ensures { WrapsTo 32 (bits_of self.entry +ℤ bits_of other.entry) (bits_of result) }
     /// ```
-    /// [`WrapsTo`], [`bits_of`]
+    /// [Notation](crate::definitions): [`WrapsTo`], [`bits_of`]
     /// </details>
     #[must_use]
     #[inline(always)]
@@ -134,7 +134,7 @@ impl<const F: u32> FixedI32<F> {
     /// ```text
     /// ensures { WrapsTo 32 (bits_of self.entry -ℤ bits_of other.entry) (bits_of result) }
     /// ```
-    /// [`WrapsTo`], [`bits_of`]
+    /// [Notation](crate::definitions): [`WrapsTo`], [`bits_of`]
     /// </details>
     #[must_use]
     #[inline(always)]
@@ -149,7 +149,7 @@ impl<const F: u32> FixedI32<F> {
     /// ```text
     /// ensures { bits_of result ≡ clamp 32 (bits_of self.entry +ℤ bits_of other.entry) }
     /// ```
-    /// [`bits_of`], [`clamp`]
+    /// [Notation](crate::definitions): [`bits_of`], [`clamp`]
     /// </details>
     #[must_use]
     #[inline(always)]
@@ -164,7 +164,7 @@ impl<const F: u32> FixedI32<F> {
     /// ```text
     /// ensures { bits_of result ≡ clamp 32 (bits_of self.entry -ℤ bits_of other.entry) }
     /// ```
-    /// [`bits_of`], [`clamp`]
+    /// [Notation](crate::definitions): [`bits_of`], [`clamp`]
     /// </details>
     #[must_use]
     #[inline(always)]
@@ -181,7 +181,7 @@ impl<const F: u32> FixedI32<F> {
     /// ensures value { IfSome result
     ///     (λ sum. bits_of sum ≡ (bits_of self.entry +ℤ bits_of other.entry)) }
     /// ```
-    /// [`FitsBits`], [`bits_of`]
+    /// [Notation](crate::definitions): [`FitsBits`], [`bits_of`]
     /// </details>
     #[must_use]
     #[inline(always)]
@@ -201,7 +201,7 @@ impl<const F: u32> FixedI32<F> {
     /// ensures value { IfSome result
     ///     (λ difference. bits_of difference ≡ (bits_of self.entry -ℤ bits_of other.entry)) }
     /// ```
-    /// [`FitsBits`], [`bits_of`]
+    /// [Notation](crate::definitions): [`FitsBits`], [`bits_of`]
     /// </details>
     #[must_use]
     #[inline(always)]
@@ -220,7 +220,7 @@ impl<const F: u32> FixedI32<F> {
     /// ensures variant { IsSome result ↔ FitsBits 32 (neg_ℤ (bits_of self.entry)) }
     /// ensures value { IfSome result (λ negated. bits_of negated ≡ neg_ℤ (bits_of self.entry)) }
     /// ```
-    /// [`FitsBits`], [`bits_of`]
+    /// [Notation](crate::definitions): [`FitsBits`], [`bits_of`]
     /// </details>
     #[must_use]
     #[inline(always)]
@@ -240,7 +240,7 @@ impl<const F: u32> FixedI32<F> {
     /// ensures value { IfSome result
     ///     (λ magnitude. bits_of magnitude ≡ pos (unsigned_abs (bits_of self.entry))) }
     /// ```
-    /// [`FitsBits`], [`bits_of`]
+    /// [Notation](crate::definitions): [`FitsBits`], [`bits_of`]
     /// </details>
     #[must_use]
     #[inline(always)]
@@ -258,7 +258,7 @@ impl<const F: u32> FixedI32<F> {
     /// ```text
     /// ensures { result ≡ bytes_of 4 (bits_of self.entry) }
     /// ```
-    /// [`bytes_of`], [`bits_of`]
+    /// [Notation](crate::definitions): [`bytes_of`], [`bits_of`]
     /// </details>
     #[must_use]
     #[inline(always)]
@@ -278,7 +278,7 @@ where
     /// ```text
     /// ensures nearest { IsNearestWhole 32 F (bits_of self.entry) (bits_of result) }
     /// ```
-    /// [`IsNearestWhole`], [`bits_of`]
+    /// [Notation](crate::definitions): [`IsNearestWhole`], [`bits_of`]
     /// </details>
     #[must_use]
     #[inline(always)]
@@ -294,7 +294,7 @@ where
     /// ensures variant { IsSome result ↔ FitsBits 32 (rounded F (bits_of self.entry)) }
     /// ensures value { IfSome result (λ whole. bits_of whole ≡ rounded F (bits_of self.entry)) }
     /// ```
-    /// [`FitsBits`], [`rounded`], [`bits_of`]
+    /// [Notation](crate::definitions): [`FitsBits`], [`rounded`], [`bits_of`]
     /// </details>
     #[must_use]
     #[inline(always)]
@@ -312,7 +312,7 @@ where
     /// ```text
     /// ensures { IsFloor F (bits_of self.entry) (bits_of result) }
     /// ```
-    /// [`IsFloor`], [`bits_of`]
+    /// [Notation](crate::definitions): [`IsFloor`], [`bits_of`]
     /// </details>
     #[must_use]
     #[inline(always)]
@@ -327,7 +327,7 @@ where
     /// ```text
     /// ensures { IsFract F (bits_of self.entry) (bits_of result) }
     /// ```
-    /// [`IsFract`], [`bits_of`]
+    /// [Notation](crate::definitions): [`IsFract`], [`bits_of`]
     /// </details>
     #[must_use]
     #[inline(always)]
@@ -350,7 +350,7 @@ where
     /// ```text
     /// ensures { ParsesFixedPoint w32 F bits_of text.now result }
     /// ```
-    /// [`ParsesFixedPoint`], [`bits_of`]
+    /// [Notation](crate::definitions): [`ParsesFixedPoint`], [`bits_of`]
     /// </details>
     #[inline]
     pub const fn from_decimal(text: &str) -> Result<Self, DecimalFault> {
@@ -368,7 +368,7 @@ where
     /// ```text
     /// ensures { ParsesFixedPoint w32 F bits_of text.now result }
     /// ```
-    /// [`ParsesFixedPoint`], [`bits_of`]
+    /// [Notation](crate::definitions): [`ParsesFixedPoint`], [`bits_of`]
     /// </details>
     #[inline]
     pub const fn from_decimal_bytes(text: &[u8]) -> Result<Self, DecimalFault> {
@@ -392,7 +392,7 @@ where
     /// ensures shortest { IsShortest (bits_of self.entry) F (shown result) }
     /// ensures text { shown result ≡ text_of self.entry }
     /// ```
-    /// [`IsShortest`], [`bits_of`], [`shown`], [`text_of`]
+    /// [Notation](crate::definitions): [`IsShortest`], [`bits_of`], [`shown`], [`text_of`]
     /// </details>
     #[must_use]
     #[inline]
@@ -408,7 +408,7 @@ where
     /// ```text
     /// ensures { result ≡ longest 32 F }
     /// ```
-    /// [`longest`]
+    /// [Notation](crate::definitions): [`longest`]
     /// </details>
     #[must_use]
     #[inline]
@@ -438,7 +438,7 @@ where
     /// ensures cell { max (longest 32 F) pad.now.width ≤ length out.old → IsSome result }
     /// ensures untouched { IfNone result (out.new ≡ out.old) }
     /// ```
-    /// [`FillsFront`], [`padded_text`], [`text_of`], [`longest`]
+    /// [Notation](crate::definitions): [`FillsFront`], [`padded_text`], [`text_of`], [`longest`]
     /// </details>
     #[must_use]
     #[inline]
@@ -454,7 +454,7 @@ where
 /// ```text
 /// ghost add_gives = { λ x y sum. WrapsTo 32 (bits_of x +ℤ bits_of y) (bits_of sum) };
 /// ```
-/// [`WrapsTo`], [`bits_of`]
+/// [Notation](crate::definitions): [`WrapsTo`], [`bits_of`]
 /// </details>
 impl<const F: u32> Add for FixedI32<F> {
     type Output = FixedI32<F>;
@@ -472,7 +472,7 @@ impl<const F: u32> Add for FixedI32<F> {
 /// ```text
 /// ghost add_assign_gives = { λ x y sum. WrapsTo 32 (bits_of x +ℤ bits_of y) (bits_of sum) };
 /// ```
-/// [`WrapsTo`], [`bits_of`]
+/// [Notation](crate::definitions): [`WrapsTo`], [`bits_of`]
 /// </details>
 impl<const F: u32> AddAssign for FixedI32<F> {
     #[inline(always)]
@@ -488,7 +488,7 @@ impl<const F: u32> AddAssign for FixedI32<F> {
 /// ```text
 /// ghost sub_gives = { λ x y rest. WrapsTo 32 (bits_of x -ℤ bits_of y) (bits_of rest) };
 /// ```
-/// [`WrapsTo`], [`bits_of`]
+/// [Notation](crate::definitions): [`WrapsTo`], [`bits_of`]
 /// </details>
 impl<const F: u32> Sub for FixedI32<F> {
     type Output = FixedI32<F>;
@@ -506,7 +506,7 @@ impl<const F: u32> Sub for FixedI32<F> {
 /// ```text
 /// ghost sub_assign_gives = { λ x y rest. WrapsTo 32 (bits_of x -ℤ bits_of y) (bits_of rest) };
 /// ```
-/// [`WrapsTo`], [`bits_of`]
+/// [Notation](crate::definitions): [`WrapsTo`], [`bits_of`]
 /// </details>
 impl<const F: u32> SubAssign for FixedI32<F> {
     #[inline(always)]
@@ -522,7 +522,7 @@ impl<const F: u32> SubAssign for FixedI32<F> {
 /// ```text
 /// ghost neg_gives = { λ x opposite. WrapsTo 32 (neg_ℤ (bits_of x)) (bits_of opposite) };
 /// ```
-/// [`WrapsTo`], [`bits_of`]
+/// [Notation](crate::definitions): [`WrapsTo`], [`bits_of`]
 /// </details>
 impl<const F: u32> Neg for FixedI32<F> {
     type Output = FixedI32<F>;
@@ -540,7 +540,7 @@ impl<const F: u32> Neg for FixedI32<F> {
 /// ```text
 /// ghost from_str_gives = { λ text result. ParsesFixedPoint w32 F bits_of text result };
 /// ```
-/// [`ParsesFixedPoint`], [`bits_of`]
+/// [Notation](crate::definitions): [`ParsesFixedPoint`], [`bits_of`]
 /// </details>
 impl<const F: u32> FromStr for FixedI32<F>
 where
@@ -562,7 +562,7 @@ where
 /// ```text
 /// ghost output = { λ x. Some (text_of x) };
 /// ```
-/// [`text_of`]
+/// [Notation](crate::definitions): [`text_of`]
 /// </details>
 impl<const F: u32> fmt::Display for FixedI32<F>
 where
@@ -578,7 +578,7 @@ where
 /// ```text
 /// ghost debug_output = { λ x. Some (text_of x) };
 /// ```
-/// [`text_of`]
+/// [Notation](crate::definitions): [`text_of`]
 /// </details>
 impl<const F: u32> fmt::Debug for FixedI32<F>
 where

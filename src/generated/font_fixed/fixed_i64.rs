@@ -70,7 +70,7 @@ impl<const F: u32> FixedI64<F> {
     /// ```text
     /// ensures { bits_of result ≡ bits }
     /// ```
-    /// [`bits_of`]
+    /// [Notation](crate::definitions): [`bits_of`]
     /// </details>
     #[must_use]
     #[inline(always)]
@@ -85,7 +85,7 @@ impl<const F: u32> FixedI64<F> {
     /// ```text
     /// ensures { result ≡ bits_of self.entry }
     /// ```
-    /// [`bits_of`]
+    /// [Notation](crate::definitions): [`bits_of`]
     /// </details>
     #[must_use]
     #[inline(always)]
@@ -100,7 +100,7 @@ impl<const F: u32> FixedI64<F> {
     /// ```text
     /// ensures { WrapsTo 64 (pos (unsigned_abs (bits_of self.entry))) (bits_of result) }
     /// ```
-    /// [`WrapsTo`], [`bits_of`]
+    /// [Notation](crate::definitions): [`WrapsTo`], [`bits_of`]
     /// </details>
     #[must_use]
     #[inline(always)]
@@ -115,7 +115,7 @@ impl<const F: u32> FixedI64<F> {
     /// ```text
     /// ensures { WrapsTo 64 (bits_of self.entry +ℤ bits_of other.entry) (bits_of result) }
     /// ```
-    /// [`WrapsTo`], [`bits_of`]
+    /// [Notation](crate::definitions): [`WrapsTo`], [`bits_of`]
     /// </details>
     #[must_use]
     #[inline(always)]
@@ -130,7 +130,7 @@ impl<const F: u32> FixedI64<F> {
     /// ```text
     /// ensures { WrapsTo 64 (bits_of self.entry -ℤ bits_of other.entry) (bits_of result) }
     /// ```
-    /// [`WrapsTo`], [`bits_of`]
+    /// [Notation](crate::definitions): [`WrapsTo`], [`bits_of`]
     /// </details>
     #[must_use]
     #[inline(always)]
@@ -145,7 +145,7 @@ impl<const F: u32> FixedI64<F> {
     /// ```text
     /// ensures { bits_of result ≡ clamp 64 (bits_of self.entry +ℤ bits_of other.entry) }
     /// ```
-    /// [`bits_of`], [`clamp`]
+    /// [Notation](crate::definitions): [`bits_of`], [`clamp`]
     /// </details>
     #[must_use]
     #[inline(always)]
@@ -160,7 +160,7 @@ impl<const F: u32> FixedI64<F> {
     /// ```text
     /// ensures { bits_of result ≡ clamp 64 (bits_of self.entry -ℤ bits_of other.entry) }
     /// ```
-    /// [`bits_of`], [`clamp`]
+    /// [Notation](crate::definitions): [`bits_of`], [`clamp`]
     /// </details>
     #[must_use]
     #[inline(always)]
@@ -177,7 +177,7 @@ impl<const F: u32> FixedI64<F> {
     /// ensures value { IfSome result
     ///     (λ sum. bits_of sum ≡ (bits_of self.entry +ℤ bits_of other.entry)) }
     /// ```
-    /// [`FitsBits`], [`bits_of`]
+    /// [Notation](crate::definitions): [`FitsBits`], [`bits_of`]
     /// </details>
     #[must_use]
     #[inline(always)]
@@ -197,7 +197,7 @@ impl<const F: u32> FixedI64<F> {
     /// ensures value { IfSome result
     ///     (λ difference. bits_of difference ≡ (bits_of self.entry -ℤ bits_of other.entry)) }
     /// ```
-    /// [`FitsBits`], [`bits_of`]
+    /// [Notation](crate::definitions): [`FitsBits`], [`bits_of`]
     /// </details>
     #[must_use]
     #[inline(always)]
@@ -216,7 +216,7 @@ impl<const F: u32> FixedI64<F> {
     /// ensures variant { IsSome result ↔ FitsBits 64 (neg_ℤ (bits_of self.entry)) }
     /// ensures value { IfSome result (λ negated. bits_of negated ≡ neg_ℤ (bits_of self.entry)) }
     /// ```
-    /// [`FitsBits`], [`bits_of`]
+    /// [Notation](crate::definitions): [`FitsBits`], [`bits_of`]
     /// </details>
     #[must_use]
     #[inline(always)]
@@ -236,7 +236,7 @@ impl<const F: u32> FixedI64<F> {
     /// ensures value { IfSome result
     ///     (λ magnitude. bits_of magnitude ≡ pos (unsigned_abs (bits_of self.entry))) }
     /// ```
-    /// [`FitsBits`], [`bits_of`]
+    /// [Notation](crate::definitions): [`FitsBits`], [`bits_of`]
     /// </details>
     #[must_use]
     #[inline(always)]
@@ -254,7 +254,7 @@ impl<const F: u32> FixedI64<F> {
     /// ```text
     /// ensures { result ≡ bytes_of 8 (bits_of self.entry) }
     /// ```
-    /// [`bytes_of`], [`bits_of`]
+    /// [Notation](crate::definitions): [`bytes_of`], [`bits_of`]
     /// </details>
     #[must_use]
     #[inline(always)]
@@ -274,7 +274,7 @@ where
     /// ```text
     /// ensures nearest { IsNearestWhole 64 F (bits_of self.entry) (bits_of result) }
     /// ```
-    /// [`IsNearestWhole`], [`bits_of`]
+    /// [Notation](crate::definitions): [`IsNearestWhole`], [`bits_of`]
     /// </details>
     #[must_use]
     #[inline(always)]
@@ -290,7 +290,7 @@ where
     /// ensures variant { IsSome result ↔ FitsBits 64 (rounded F (bits_of self.entry)) }
     /// ensures value { IfSome result (λ whole. bits_of whole ≡ rounded F (bits_of self.entry)) }
     /// ```
-    /// [`FitsBits`], [`rounded`], [`bits_of`]
+    /// [Notation](crate::definitions): [`FitsBits`], [`rounded`], [`bits_of`]
     /// </details>
     #[must_use]
     #[inline(always)]
@@ -308,7 +308,7 @@ where
     /// ```text
     /// ensures { IsFloor F (bits_of self.entry) (bits_of result) }
     /// ```
-    /// [`IsFloor`], [`bits_of`]
+    /// [Notation](crate::definitions): [`IsFloor`], [`bits_of`]
     /// </details>
     #[must_use]
     #[inline(always)]
@@ -323,7 +323,7 @@ where
     /// ```text
     /// ensures { IsFract F (bits_of self.entry) (bits_of result) }
     /// ```
-    /// [`IsFract`], [`bits_of`]
+    /// [Notation](crate::definitions): [`IsFract`], [`bits_of`]
     /// </details>
     #[must_use]
     #[inline(always)]
@@ -346,7 +346,7 @@ where
     /// ```text
     /// ensures { ParsesFixedPoint w64 F bits_of text.now result }
     /// ```
-    /// [`ParsesFixedPoint`], [`bits_of`]
+    /// [Notation](crate::definitions): [`ParsesFixedPoint`], [`bits_of`]
     /// </details>
     #[inline]
     pub const fn from_decimal(text: &str) -> Result<Self, DecimalFault> {
@@ -364,7 +364,7 @@ where
     /// ```text
     /// ensures { ParsesFixedPoint w64 F bits_of text.now result }
     /// ```
-    /// [`ParsesFixedPoint`], [`bits_of`]
+    /// [Notation](crate::definitions): [`ParsesFixedPoint`], [`bits_of`]
     /// </details>
     #[inline]
     pub const fn from_decimal_bytes(text: &[u8]) -> Result<Self, DecimalFault> {
@@ -388,7 +388,7 @@ where
     /// ensures shortest { IsShortest (bits_of self.entry) F (shown result) }
     /// ensures text { shown result ≡ text_of self.entry }
     /// ```
-    /// [`IsShortest`], [`bits_of`], [`shown`], [`text_of`]
+    /// [Notation](crate::definitions): [`IsShortest`], [`bits_of`], [`shown`], [`text_of`]
     /// </details>
     #[must_use]
     #[inline]
@@ -404,7 +404,7 @@ where
     /// ```text
     /// ensures { result ≡ longest 64 F }
     /// ```
-    /// [`longest`]
+    /// [Notation](crate::definitions): [`longest`]
     /// </details>
     #[must_use]
     #[inline]
@@ -434,7 +434,7 @@ where
     /// ensures cell { max (longest 64 F) pad.now.width ≤ length out.old → IsSome result }
     /// ensures untouched { IfNone result (out.new ≡ out.old) }
     /// ```
-    /// [`FillsFront`], [`padded_text`], [`text_of`], [`longest`]
+    /// [Notation](crate::definitions): [`FillsFront`], [`padded_text`], [`text_of`], [`longest`]
     /// </details>
     #[must_use]
     #[inline]
@@ -450,7 +450,7 @@ where
 /// ```text
 /// ghost add_gives = { λ x y sum. WrapsTo 64 (bits_of x +ℤ bits_of y) (bits_of sum) };
 /// ```
-/// [`WrapsTo`], [`bits_of`]
+/// [Notation](crate::definitions): [`WrapsTo`], [`bits_of`]
 /// </details>
 impl<const F: u32> Add for FixedI64<F> {
     type Output = FixedI64<F>;
@@ -468,7 +468,7 @@ impl<const F: u32> Add for FixedI64<F> {
 /// ```text
 /// ghost add_assign_gives = { λ x y sum. WrapsTo 64 (bits_of x +ℤ bits_of y) (bits_of sum) };
 /// ```
-/// [`WrapsTo`], [`bits_of`]
+/// [Notation](crate::definitions): [`WrapsTo`], [`bits_of`]
 /// </details>
 impl<const F: u32> AddAssign for FixedI64<F> {
     #[inline(always)]
@@ -484,7 +484,7 @@ impl<const F: u32> AddAssign for FixedI64<F> {
 /// ```text
 /// ghost sub_gives = { λ x y rest. WrapsTo 64 (bits_of x -ℤ bits_of y) (bits_of rest) };
 /// ```
-/// [`WrapsTo`], [`bits_of`]
+/// [Notation](crate::definitions): [`WrapsTo`], [`bits_of`]
 /// </details>
 impl<const F: u32> Sub for FixedI64<F> {
     type Output = FixedI64<F>;
@@ -502,7 +502,7 @@ impl<const F: u32> Sub for FixedI64<F> {
 /// ```text
 /// ghost sub_assign_gives = { λ x y rest. WrapsTo 64 (bits_of x -ℤ bits_of y) (bits_of rest) };
 /// ```
-/// [`WrapsTo`], [`bits_of`]
+/// [Notation](crate::definitions): [`WrapsTo`], [`bits_of`]
 /// </details>
 impl<const F: u32> SubAssign for FixedI64<F> {
     #[inline(always)]
@@ -518,7 +518,7 @@ impl<const F: u32> SubAssign for FixedI64<F> {
 /// ```text
 /// ghost neg_gives = { λ x opposite. WrapsTo 64 (neg_ℤ (bits_of x)) (bits_of opposite) };
 /// ```
-/// [`WrapsTo`], [`bits_of`]
+/// [Notation](crate::definitions): [`WrapsTo`], [`bits_of`]
 /// </details>
 impl<const F: u32> Neg for FixedI64<F> {
     type Output = FixedI64<F>;
@@ -536,7 +536,7 @@ impl<const F: u32> Neg for FixedI64<F> {
 /// ```text
 /// ghost from_str_gives = { λ text result. ParsesFixedPoint w64 F bits_of text result };
 /// ```
-/// [`ParsesFixedPoint`], [`bits_of`]
+/// [Notation](crate::definitions): [`ParsesFixedPoint`], [`bits_of`]
 /// </details>
 impl<const F: u32> FromStr for FixedI64<F>
 where
@@ -558,7 +558,7 @@ where
 /// ```text
 /// ghost output = { λ x. Some (text_of x) };
 /// ```
-/// [`text_of`]
+/// [Notation](crate::definitions): [`text_of`]
 /// </details>
 impl<const F: u32> fmt::Display for FixedI64<F>
 where
@@ -574,7 +574,7 @@ where
 /// ```text
 /// ghost debug_output = { λ x. Some (text_of x) };
 /// ```
-/// [`text_of`]
+/// [Notation](crate::definitions): [`text_of`]
 /// </details>
 impl<const F: u32> fmt::Debug for FixedI64<F>
 where

@@ -22,6 +22,7 @@ use crate::font_fixed::{FixedI16, FixedI32, FixedI64};
 /// ghost most: { F ≤ 30 };
 /// ghost whole: { F + 2 ≤ W };
 /// ```
+/// [Notation](crate::definitions)
 /// </details>
 pub trait Format<const W: u32, const F: u32>: Sealed {}
 

@@ -26,7 +26,7 @@ use crate::definitions::font_fixed::Operations::rounded_mul_div;
 /// requires { (6 ≤ f) × (f ≤ 30) }
 /// ensures { IsProduct 32 f x y result }
 /// ```
-/// [`IsProduct`]
+/// [Notation](crate::definitions): [`IsProduct`]
 /// </details>
 #[must_use]
 #[inline(always)]
@@ -43,7 +43,7 @@ pub const fn product(x: i32, y: i32, f: u32) -> i32 {
 /// ```text
 /// ensures { IsMulDiv 32 x a c result }
 /// ```
-/// [`IsMulDiv`]
+/// [Notation](crate::definitions): [`IsMulDiv`]
 /// </details>
 #[must_use]
 #[inline(always)]
@@ -58,7 +58,7 @@ pub const fn mul_div(x: i32, a: i32, c: i32) -> i32 {
 /// ```text
 /// ensures { result ≡ wrap 32 n }
 /// ```
-/// [`wrap`]
+/// [Notation](crate::definitions): [`wrap`]
 /// </details>
 #[must_use]
 #[inline(always)]
@@ -74,7 +74,7 @@ pub const fn low_bits(n: i64) -> i32 {
 /// requires { (6 ≤ f) × (f ≤ 30) }
 /// ensures { result ≡ near (x *ℤ y) (2 ^ f) }
 /// ```
-/// [`near`]
+/// [Notation](crate::definitions): [`near`]
 /// </details>
 #[must_use]
 #[inline(always)]
@@ -98,7 +98,7 @@ const fn rounded_shift(n: i64, f: u32) -> i64 {
 /// ensures nearest { c ≢ pos 0 → result ≡ rounded_mul_div x a c }
 /// ensures zero { c ≡ pos 0 → result ≡ signed (differ_in_sign x a) (2 ^ 31 - 1) }
 /// ```
-/// [`rounded_mul_div`], [`signed`], [`differ_in_sign`]
+/// [Notation](crate::definitions): [`rounded_mul_div`], [`signed`], [`differ_in_sign`]
 /// </details>
 #[inline]
 pub(crate) const fn nearest_mul_div(x: i32, a: i32, c: i32) -> i64 {

@@ -16,7 +16,7 @@ use crate::font_decimal::{DecimalFault, read_decimal_bytes};
 /// requires { (6 ≤ f) × (f ≤ 30) }
 /// ensures { ParsesFixedPoint w16 f (λ bits. bits) text.now result }
 /// ```
-/// [`ParsesFixedPoint`]
+/// [Notation](crate::definitions): [`ParsesFixedPoint`]
 /// </details>
 #[inline(always)]
 pub const fn read_bits_16(text: &[u8], f: u32) -> Result<i16, DecimalFault> {
@@ -35,7 +35,7 @@ pub const fn read_bits_16(text: &[u8], f: u32) -> Result<i16, DecimalFault> {
 /// requires { (6 ≤ f) × (f ≤ 30) }
 /// ensures { ParsesFixedPoint w32 f (λ bits. bits) text.now result }
 /// ```
-/// [`ParsesFixedPoint`]
+/// [Notation](crate::definitions): [`ParsesFixedPoint`]
 /// </details>
 #[inline(always)]
 pub const fn read_bits_32(text: &[u8], f: u32) -> Result<i32, DecimalFault> {
@@ -54,7 +54,7 @@ pub const fn read_bits_32(text: &[u8], f: u32) -> Result<i32, DecimalFault> {
 /// requires { (6 ≤ f) × (f ≤ 30) }
 /// ensures { ParsesFixedPoint w64 f (λ bits. bits) text.now result }
 /// ```
-/// [`ParsesFixedPoint`]
+/// [Notation](crate::definitions): [`ParsesFixedPoint`]
 /// </details>
 #[inline(always)]
 pub const fn read_bits_64(text: &[u8], f: u32) -> Result<i64, DecimalFault> {

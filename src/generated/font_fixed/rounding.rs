@@ -20,7 +20,7 @@ use crate::definitions::font_fixed::Rounding::rounded;
 /// requires { f + 2 ≤ 16 }
 /// ensures { IsFloor f bits result }
 /// ```
-/// [`IsFloor`]
+/// [Notation](crate::definitions): [`IsFloor`]
 /// </details>
 #[must_use]
 #[inline(always)]
@@ -37,7 +37,7 @@ pub const fn floor_bits_16(bits: i16, f: u32) -> i16 {
 /// requires { f + 2 ≤ 32 }
 /// ensures { IsFloor f bits result }
 /// ```
-/// [`IsFloor`]
+/// [Notation](crate::definitions): [`IsFloor`]
 /// </details>
 #[must_use]
 #[inline(always)]
@@ -54,7 +54,7 @@ pub const fn floor_bits_32(bits: i32, f: u32) -> i32 {
 /// requires { f + 2 ≤ 64 }
 /// ensures { IsFloor f bits result }
 /// ```
-/// [`IsFloor`]
+/// [Notation](crate::definitions): [`IsFloor`]
 /// </details>
 #[must_use]
 #[inline(always)]
@@ -72,7 +72,7 @@ pub const fn floor_bits_64(bits: i64, f: u32) -> i64 {
 /// ensures variant { IsSome result ↔ FitsBits 16 (rounded f bits) }
 /// ensures value { IfSome result (λ whole. whole ≡ rounded f bits) }
 /// ```
-/// [`FitsBits`], [`rounded`]
+/// [Notation](crate::definitions): [`FitsBits`], [`rounded`]
 /// </details>
 #[must_use]
 #[inline(always)]
@@ -93,7 +93,7 @@ pub const fn round_bits_16(bits: i16, f: u32) -> Option<i16> {
 /// ensures variant { IsSome result ↔ FitsBits 32 (rounded f bits) }
 /// ensures value { IfSome result (λ whole. whole ≡ rounded f bits) }
 /// ```
-/// [`FitsBits`], [`rounded`]
+/// [Notation](crate::definitions): [`FitsBits`], [`rounded`]
 /// </details>
 #[must_use]
 #[inline(always)]
@@ -114,7 +114,7 @@ pub const fn round_bits_32(bits: i32, f: u32) -> Option<i32> {
 /// ensures variant { IsSome result ↔ FitsBits 64 (rounded f bits) }
 /// ensures value { IfSome result (λ whole. whole ≡ rounded f bits) }
 /// ```
-/// [`FitsBits`], [`rounded`]
+/// [Notation](crate::definitions): [`FitsBits`], [`rounded`]
 /// </details>
 #[must_use]
 #[inline(always)]
@@ -133,7 +133,7 @@ pub const fn round_bits_64(bits: i64, f: u32) -> Option<i64> {
 /// requires { (2 ≤ f) × (f ≤ 30) }
 /// ensures { result ≡ up n (2 ^ f) }
 /// ```
-/// [`up`]
+/// [Notation](crate::definitions): [`up`]
 /// </details>
 #[inline(always)]
 pub(crate) const fn half_up_32(n: i32, f: u32) -> i32 {
@@ -149,7 +149,7 @@ pub(crate) const fn half_up_32(n: i32, f: u32) -> i32 {
 /// ensures variant { IsSome result ↔ FitsBits (32 - f) (up bits (2 ^ f)) }
 /// ensures value { IfSome result (λ number. number ≡ up bits (2 ^ f)) }
 /// ```
-/// [`FitsBits`], [`up`]
+/// [Notation](crate::definitions): [`FitsBits`], [`up`]
 /// </details>
 #[inline(always)]
 pub(crate) const fn narrow_32(bits: i32, f: u32) -> Option<i32> {
@@ -168,7 +168,7 @@ pub(crate) const fn narrow_32(bits: i32, f: u32) -> Option<i32> {
 /// ensures variant { IsSome result ↔ FitsBits (64 - f) (up bits (2 ^ f)) }
 /// ensures value { IfSome result (λ number. number ≡ up bits (2 ^ f)) }
 /// ```
-/// [`FitsBits`], [`up`]
+/// [Notation](crate::definitions): [`FitsBits`], [`up`]
 /// </details>
 #[inline(always)]
 pub(crate) const fn narrow_64(bits: i64, f: u32) -> Option<i64> {
@@ -186,7 +186,7 @@ pub(crate) const fn narrow_64(bits: i64, f: u32) -> Option<i64> {
 /// requires { (2 ≤ f) × (f ≤ 30) }
 /// ensures { result ≡ up n (2 ^ f) }
 /// ```
-/// [`up`]
+/// [Notation](crate::definitions): [`up`]
 /// </details>
 #[inline(always)]
 pub(crate) const fn half_up_64(n: i64, f: u32) -> i64 {
@@ -201,7 +201,7 @@ pub(crate) const fn half_up_64(n: i64, f: u32) -> i64 {
 /// ensures variant { IsSome result ↔ FitsBits 16 n }
 /// ensures value { IfSome result (λ number. number ≡ n) }
 /// ```
-/// [`FitsBits`]
+/// [Notation](crate::definitions): [`FitsBits`]
 /// </details>
 #[must_use]
 #[inline(always)]
@@ -217,7 +217,7 @@ pub const fn fitting_16(n: i64) -> Option<i16> {
 /// ensures variant { IsSome result ↔ FitsBits 32 n }
 /// ensures value { IfSome result (λ number. number ≡ n) }
 /// ```
-/// [`FitsBits`]
+/// [Notation](crate::definitions): [`FitsBits`]
 /// </details>
 #[inline(always)]
 pub(crate) const fn fitting_32(n: i64) -> Option<i32> {

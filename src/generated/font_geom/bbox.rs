@@ -51,7 +51,7 @@ impl<T: Mul<Output = T> + Copy> BoundingBox<T> {
     /// requires { CanScale T.can_mul self.now factor }
     /// ensures { IsScaled T.mul_gives self.now factor result }
     /// ```
-    /// [`CanScale`], [`IsScaled`]
+    /// [Notation](crate::definitions): [`CanScale`], [`IsScaled`]
     /// </details>
     #[must_use]
     #[inline]
@@ -73,7 +73,7 @@ impl<T: PartialOrd + Copy> BoundingBox<T> {
     /// ```text
     /// ensures { result ≡ is_normalized (partial_le T.partial_cmp) self.now }
     /// ```
-    /// [`is_normalized`]
+    /// [Notation](crate::definitions): [`is_normalized`]
     /// </details>
     #[must_use]
     #[inline]
@@ -95,7 +95,7 @@ impl<T: PartialOrd + Copy> BoundingBox<T> {
     /// ensures once { Compares (partial_le T.partial_cmp) self.now
     ///     → normalized_box (partial_le T.partial_cmp) result ≡ result }
     /// ```
-    /// [`normalized_box`], [`HasSamePairs`], [`Compares`], [`is_normalized`]
+    /// [Notation](crate::definitions): [`normalized_box`], [`HasSamePairs`], [`Compares`], [`is_normalized`]
     /// </details>
     #[must_use]
     #[inline]

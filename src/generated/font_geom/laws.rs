@@ -48,7 +48,7 @@ use crate::font_geom::{Matrix, Point, RingElement};
 ///     ≡ matrix_product T.plus T.times a (matrix_product T.plus T.times b c) }
 /// ensures equal { result.0 ≡ result.1 }
 /// ```
-/// [`matrix_product`]
+/// [Notation](crate::definitions): [`matrix_product`]
 /// </details>
 #[must_use]
 #[inline]
@@ -69,7 +69,7 @@ pub fn associative<T: RingElement>(
 /// ensures second { result.1 ≡ image_of T.plus T.times a (image_of T.plus T.times b p) }
 /// ensures equal { result.0 ≡ result.1 }
 /// ```
-/// [`image_of`], [`matrix_product`]
+/// [Notation](crate::definitions): [`image_of`], [`matrix_product`]
 /// </details>
 #[must_use]
 #[inline]
@@ -87,7 +87,7 @@ pub fn action<T: RingElement>(a: Matrix<T>, b: Matrix<T>, p: Point<T>) -> (Point
 /// ensures left { result.0 ≡ a }
 /// ensures right { result.1 ≡ a }
 /// ```
-/// [`matrix_product`], [`identity_matrix`]
+/// [Notation](crate::definitions): [`matrix_product`], [`identity_matrix`]
 /// </details>
 #[must_use]
 #[inline]
@@ -108,7 +108,7 @@ pub fn identity_neutral<T: RingElement>(a: Matrix<T>) -> (Matrix<T>, Matrix<T>) 
 /// ensures left { result.0 ≡ a }
 /// ensures right { result.1 ≡ a }
 /// ```
-/// [`matrix_bits`], [`matrix_product`], [`wrapped_sum`], [`wrapped_product`], [`identity_matrix`]
+/// [Notation](crate::definitions): [`matrix_bits`], [`matrix_product`], [`wrapped_sum`], [`wrapped_product`], [`identity_matrix`]
 /// </details>
 #[must_use]
 #[inline]
@@ -128,7 +128,7 @@ pub fn fixed_identity(a: Matrix<Fixed>) -> (Matrix<Fixed>, Matrix<Fixed>) {
 /// ensures second { fixed_bits result.1 ≡ pos 0 }
 /// ensures apart { ¬ ProductsAssociate }
 /// ```
-/// [`fixed_bits`], [`ProductsAssociate`]
+/// [Notation](crate::definitions): [`fixed_bits`], [`ProductsAssociate`]
 /// </details>
 #[must_use]
 #[inline]
@@ -150,7 +150,7 @@ pub fn step_and_halves() -> (Fixed, Fixed) {
 /// ensures close { FitsPoint (image_of ◌+ℤ◌ rounded_product (matrix_bits a) (point_bits p))
 ///     → IsCloseImage (matrix_bits a) (point_bits p) (point_bits result) }
 /// ```
-/// [`point_bits`], [`image_of`], [`wrapped_sum`], [`wrapped_product`], [`matrix_bits`], [`FitsPoint`], [`rounded_product`], [`IsCloseImage`]
+/// [Notation](crate::definitions): [`point_bits`], [`image_of`], [`wrapped_sum`], [`wrapped_product`], [`matrix_bits`], [`FitsPoint`], [`rounded_product`], [`IsCloseImage`]
 /// </details>
 #[must_use]
 #[inline]
@@ -173,7 +173,7 @@ pub fn image(a: Matrix<Fixed>, p: Point<Fixed>) -> Point<Fixed> {
 /// ensures close { FitsComposed (matrix_bits a) (matrix_bits b) (point_bits p)
 ///     → IsCloseComposed (matrix_bits a) (matrix_bits b) (point_bits p) (point_bits result) }
 /// ```
-/// [`point_bits`], [`image_of`], [`wrapped_sum`], [`wrapped_product`], [`matrix_product`], [`matrix_bits`], [`FitsComposed`], [`IsCloseComposed`]
+/// [Notation](crate::definitions): [`point_bits`], [`image_of`], [`wrapped_sum`], [`wrapped_product`], [`matrix_product`], [`matrix_bits`], [`FitsComposed`], [`IsCloseComposed`]
 /// </details>
 #[must_use]
 #[inline]
@@ -196,7 +196,7 @@ pub fn composed(a: Matrix<Fixed>, b: Matrix<Fixed>, p: Point<Fixed>) -> Point<Fi
 /// ensures close { FitsInTurn (matrix_bits a) (matrix_bits b) (point_bits p)
 ///     → IsCloseInTurn (matrix_bits a) (matrix_bits b) (point_bits p) (point_bits result) }
 /// ```
-/// [`point_bits`], [`image_of`], [`wrapped_sum`], [`wrapped_product`], [`matrix_bits`], [`FitsInTurn`], [`IsCloseInTurn`]
+/// [Notation](crate::definitions): [`point_bits`], [`image_of`], [`wrapped_sum`], [`wrapped_product`], [`matrix_bits`], [`FitsInTurn`], [`IsCloseInTurn`]
 /// </details>
 #[must_use]
 #[inline]
@@ -218,7 +218,7 @@ pub fn in_turn(a: Matrix<Fixed>, b: Matrix<Fixed>, p: Point<Fixed>) -> Point<Fix
 /// ensures close { IfSome result (λ moved.
 ///     IsCloseComposed (matrix_bits a) (matrix_bits b) (point_bits p) (point_bits moved)) }
 /// ```
-/// [`FitsComposed`], [`matrix_bits`], [`point_bits`], [`image_of`], [`wrapped_sum`], [`wrapped_product`], [`matrix_product`], [`IsCloseComposed`]
+/// [Notation](crate::definitions): [`FitsComposed`], [`matrix_bits`], [`point_bits`], [`image_of`], [`wrapped_sum`], [`wrapped_product`], [`matrix_product`], [`IsCloseComposed`]
 /// </details>
 #[must_use]
 #[inline]
@@ -244,7 +244,7 @@ pub fn checked_composed(
 /// ensures close { IfSome result (λ moved.
 ///     IsCloseInTurn (matrix_bits a) (matrix_bits b) (point_bits p) (point_bits moved)) }
 /// ```
-/// [`FitsInTurn`], [`matrix_bits`], [`point_bits`], [`image_of`], [`wrapped_sum`], [`wrapped_product`], [`IsCloseInTurn`]
+/// [Notation](crate::definitions): [`FitsInTurn`], [`matrix_bits`], [`point_bits`], [`image_of`], [`wrapped_sum`], [`wrapped_product`], [`IsCloseInTurn`]
 /// </details>
 #[must_use]
 #[inline]

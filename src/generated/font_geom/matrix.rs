@@ -138,7 +138,7 @@ impl<T: Copy> Matrix<T> {
     /// ```text
     /// ensures { elements_of result ≡ elements }
     /// ```
-    /// [`elements_of`]
+    /// [Notation](crate::definitions): [`elements_of`]
     /// </details>
     #[must_use]
     #[inline]
@@ -154,7 +154,7 @@ impl<T: Copy> Matrix<T> {
     /// ```text
     /// ensures { result ≡ elements_of self.now }
     /// ```
-    /// [`elements_of`]
+    /// [Notation](crate::definitions): [`elements_of`]
     /// </details>
     #[must_use]
     #[inline]
@@ -170,7 +170,7 @@ impl<T: Copy> Matrix<T> {
     /// requires { CanCallEach F.pre F.step f (elements_of self) }
     /// ensures { CallsEach F.step f (elements_of self) (elements_of result) }
     /// ```
-    /// [`CanCallEach`], [`elements_of`], [`CallsEach`]
+    /// [Notation](crate::definitions): [`CanCallEach`], [`elements_of`], [`CallsEach`]
     /// </details>
     #[must_use]
     #[inline(always)]
@@ -194,7 +194,7 @@ impl<T: MatrixElement> Matrix<T> {
     /// ```text
     /// ensures { result ≡ identity_matrix T.ZERO T.ONE }
     /// ```
-    /// [`identity_matrix`]
+    /// [Notation](crate::definitions): [`identity_matrix`]
     /// </details>
     #[must_use]
     #[inline]
@@ -211,7 +211,7 @@ impl<T: MatrixElement> Matrix<T> {
     /// requires { CanTransform T.can_mul T.mul_gives T.can_add T.add_gives self.now x y }
     /// ensures { IsTransformed T.mul_gives T.add_gives self.now x y result.0 result.1 }
     /// ```
-    /// [`CanTransform`], [`IsTransformed`]
+    /// [Notation](crate::definitions): [`CanTransform`], [`IsTransformed`]
     /// </details>
     #[must_use]
     #[inline]
@@ -232,7 +232,7 @@ impl Matrix<Fixed> {
     /// ensures value { IfSome result (λ moved. point_bits (record { x = moved.0; y = moved.1 })
     ///     ≡ rounded_image (matrix_bits self.now) (point_bits (record { x = x; y = y }))) }
     /// ```
-    /// [`FitsPoint`], [`rounded_image`], [`matrix_bits`], [`point_bits`]
+    /// [Notation](crate::definitions): [`FitsPoint`], [`rounded_image`], [`matrix_bits`], [`point_bits`]
     /// </details>
     #[must_use]
     #[inline]
@@ -257,7 +257,7 @@ impl Matrix<Fixed> {
     /// ensures value { IfSome result (λ product. matrix_bits product
     ///     ≡ rounded_matrix_product (matrix_bits self) (matrix_bits other)) }
     /// ```
-    /// [`FitsEach`], [`FitsBits`], [`rounded_matrix_product`], [`matrix_bits`]
+    /// [Notation](crate::definitions): [`FitsEach`], [`FitsBits`], [`rounded_matrix_product`], [`matrix_bits`]
     /// </details>
     #[must_use]
     #[inline]
@@ -302,7 +302,7 @@ const fn exact_product(x: Fixed, y: Fixed) -> i64 {
 /// ```text
 /// ghost is_default = { λ matrix. matrix ≡ identity_matrix T.ZERO T.ONE };
 /// ```
-/// [`identity_matrix`]
+/// [Notation](crate::definitions): [`identity_matrix`]
 /// </details>
 impl<T: MatrixElement> Default for Matrix<T> {
     #[inline]
@@ -322,7 +322,7 @@ impl<T: MatrixElement> Default for Matrix<T> {
 /// ghost can_mul = { CanMultiply T.can_mul T.mul_gives T.can_add T.add_gives };
 /// ghost mul_gives = { IsProductOf T.mul_gives T.add_gives };
 /// ```
-/// [`CanMultiply`], [`IsProductOf`]
+/// [Notation](crate::definitions): [`CanMultiply`], [`IsProductOf`]
 /// </details>
 impl<T: MatrixElement> Mul for Matrix<T> {
     type Output = Matrix<T>;
@@ -348,7 +348,7 @@ impl<T: MatrixElement> Mul for Matrix<T> {
 /// ghost can_mul_assign = { CanMultiply T.can_mul T.mul_gives T.can_add T.add_gives };
 /// ghost mul_assign_gives = { IsProductOf T.mul_gives T.add_gives };
 /// ```
-/// [`CanMultiply`], [`IsProductOf`]
+/// [Notation](crate::definitions): [`CanMultiply`], [`IsProductOf`]
 /// </details>
 impl<T: MatrixElement> MulAssign for Matrix<T> {
     #[inline]
@@ -367,7 +367,7 @@ impl<T: MatrixElement> MulAssign for Matrix<T> {
 /// ghost mul_gives = { λ matrix p moved.
 ///     IsTransformed T.mul_gives T.add_gives matrix p.x p.y moved.x moved.y };
 /// ```
-/// [`CanTransform`], [`IsTransformed`]
+/// [Notation](crate::definitions): [`CanTransform`], [`IsTransformed`]
 /// </details>
 impl<T: MatrixElement> Mul<Point<T>> for Matrix<T> {
     type Output = Point<T>;

@@ -43,6 +43,7 @@ impl<T> Point<T> {
     /// ```text
     /// ensures { result ≡ record { x = x; y = y } }
     /// ```
+    /// [Notation](crate::definitions)
     /// </details>
     #[must_use]
     #[inline(always)]
@@ -57,6 +58,7 @@ impl<T> Point<T> {
     /// ```text
     /// ensures { result ≡ record { x = xy; y = xy } }
     /// ```
+    /// [Notation](crate::definitions)
     /// </details>
     #[must_use]
     #[inline]
@@ -77,7 +79,7 @@ impl<T> Point<T> {
     /// requires { CanCallEach F.pre F.step f (self.x ∷ self.y ∷ []) }
     /// ensures { CallsEach F.step f (self.x ∷ self.y ∷ []) (result.x ∷ result.y ∷ []) }
     /// ```
-    /// [`CanCallEach`], [`CallsEach`]
+    /// [Notation](crate::definitions): [`CanCallEach`], [`CallsEach`]
     /// </details>
     #[must_use]
     #[inline(always)]
@@ -98,7 +100,7 @@ impl<const F: u32> Point<FixedI32<F>> {
     ///     (bits_of sum.x ≡ (bits_of self.entry.x +ℤ bits_of other.entry.x))
     ///     × (bits_of sum.y ≡ (bits_of self.entry.y +ℤ bits_of other.entry.y))) }
     /// ```
-    /// [`FitsBits`], [`bits_of`]
+    /// [Notation](crate::definitions): [`FitsBits`], [`bits_of`]
     /// </details>
     #[must_use]
     #[inline]
@@ -120,7 +122,7 @@ impl<const F: u32> Point<FixedI32<F>> {
     ///     (bits_of rest.x ≡ (bits_of self.entry.x -ℤ bits_of other.entry.x))
     ///     × (bits_of rest.y ≡ (bits_of self.entry.y -ℤ bits_of other.entry.y))) }
     /// ```
-    /// [`FitsBits`], [`bits_of`]
+    /// [Notation](crate::definitions): [`FitsBits`], [`bits_of`]
     /// </details>
     #[must_use]
     #[inline]
@@ -140,6 +142,7 @@ impl<const F: u32> Point<FixedI32<F>> {
 /// ghost can_add = { λ p q. T.can_add p.x q.x × T.can_add p.y q.y };
 /// ghost add_gives = { λ p q sum. T.add_gives p.x q.x sum.x × T.add_gives p.y q.y sum.y };
 /// ```
+/// [Notation](crate::definitions)
 /// </details>
 impl<T: Add<Output = T>> Add for Point<T> {
     type Output = Point<T>;
@@ -159,6 +162,7 @@ impl<T: Add<Output = T>> Add for Point<T> {
 /// ghost add_assign_gives = { λ p q sum. T.add_assign_gives p.x q.x sum.x
 ///     × T.add_assign_gives p.y q.y sum.y };
 /// ```
+/// [Notation](crate::definitions)
 /// </details>
 impl<T: AddAssign> AddAssign for Point<T> {
     #[inline(always)]
@@ -176,6 +180,7 @@ impl<T: AddAssign> AddAssign for Point<T> {
 /// ghost can_sub = { λ p q. T.can_sub p.x q.x × T.can_sub p.y q.y };
 /// ghost sub_gives = { λ p q rest. T.sub_gives p.x q.x rest.x × T.sub_gives p.y q.y rest.y };
 /// ```
+/// [Notation](crate::definitions)
 /// </details>
 impl<T: Sub<Output = T>> Sub for Point<T> {
     type Output = Point<T>;
@@ -195,6 +200,7 @@ impl<T: Sub<Output = T>> Sub for Point<T> {
 /// ghost sub_assign_gives = { λ p q rest. T.sub_assign_gives p.x q.x rest.x
 ///     × T.sub_assign_gives p.y q.y rest.y };
 /// ```
+/// [Notation](crate::definitions)
 /// </details>
 impl<T: SubAssign> SubAssign for Point<T> {
     #[inline(always)]
@@ -213,6 +219,7 @@ impl<T: SubAssign> SubAssign for Point<T> {
 /// ghost mul_gives = { λ p q product. T.mul_gives p.x q.x product.x
 ///     × T.mul_gives p.y q.y product.y };
 /// ```
+/// [Notation](crate::definitions)
 /// </details>
 impl<T: Mul<Output = T>> Mul for Point<T> {
     type Output = Point<T>;
@@ -232,6 +239,7 @@ impl<T: Mul<Output = T>> Mul for Point<T> {
 /// ghost mul_gives = { λ p factor product. T.mul_gives p.x factor product.x
 ///     × T.mul_gives p.y factor product.y };
 /// ```
+/// [Notation](crate::definitions)
 /// </details>
 impl<T: Mul<Output = T> + Copy> Mul<T> for Point<T> {
     type Output = Point<T>;
@@ -251,6 +259,7 @@ impl<T: Mul<Output = T> + Copy> Mul<T> for Point<T> {
 /// ghost mul_assign_gives = { λ p q product. T.mul_assign_gives p.x q.x product.x
 ///     × T.mul_assign_gives p.y q.y product.y };
 /// ```
+/// [Notation](crate::definitions)
 /// </details>
 impl<T: MulAssign> MulAssign for Point<T> {
     #[inline(always)]
@@ -270,6 +279,7 @@ impl<T: MulAssign> MulAssign for Point<T> {
 /// ghost mul_assign_gives = { λ p factor product. T.mul_assign_gives p.x factor product.x
 ///     × T.mul_assign_gives p.y factor product.y };
 /// ```
+/// [Notation](crate::definitions)
 /// </details>
 impl<T: MulAssign + Copy> MulAssign<T> for Point<T> {
     #[inline(always)]
@@ -288,6 +298,7 @@ impl<T: MulAssign + Copy> MulAssign<T> for Point<T> {
 /// ghost div_gives = { λ p q quotient. T.div_gives p.x q.x quotient.x
 ///     × T.div_gives p.y q.y quotient.y };
 /// ```
+/// [Notation](crate::definitions)
 /// </details>
 impl<T: Div<Output = T>> Div for Point<T> {
     type Output = Point<T>;
@@ -307,6 +318,7 @@ impl<T: Div<Output = T>> Div for Point<T> {
 /// ghost div_gives = { λ p divisor quotient. T.div_gives p.x divisor quotient.x
 ///     × T.div_gives p.y divisor quotient.y };
 /// ```
+/// [Notation](crate::definitions)
 /// </details>
 impl<T: Div<Output = T> + Copy> Div<T> for Point<T> {
     type Output = Point<T>;
@@ -326,6 +338,7 @@ impl<T: Div<Output = T> + Copy> Div<T> for Point<T> {
 /// ghost div_assign_gives = { λ p q quotient. T.div_assign_gives p.x q.x quotient.x
 ///     × T.div_assign_gives p.y q.y quotient.y };
 /// ```
+/// [Notation](crate::definitions)
 /// </details>
 impl<T: DivAssign> DivAssign for Point<T> {
     #[inline(always)]
@@ -345,6 +358,7 @@ impl<T: DivAssign> DivAssign for Point<T> {
 /// ghost div_assign_gives = { λ p divisor quotient. T.div_assign_gives p.x divisor quotient.x
 ///     × T.div_assign_gives p.y divisor quotient.y };
 /// ```
+/// [Notation](crate::definitions)
 /// </details>
 impl<T: DivAssign + Copy> DivAssign<T> for Point<T> {
     #[inline(always)]
@@ -362,6 +376,7 @@ impl<T: DivAssign + Copy> DivAssign<T> for Point<T> {
 /// ghost can_neg = { λ p. T.can_neg p.x × T.can_neg p.y };
 /// ghost neg_gives = { λ p opposite. T.neg_gives p.x opposite.x × T.neg_gives p.y opposite.y };
 /// ```
+/// [Notation](crate::definitions)
 /// </details>
 impl<T: Neg<Output = T>> Neg for Point<T> {
     type Output = Point<T>;

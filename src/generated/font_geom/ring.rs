@@ -37,6 +37,6 @@ use crate::font_geom::MatrixElement;
 /// ghost product_is: { (x y r : Self) → Self.mul_gives x y r → r ≡ times x y };
 /// ghost ring: { RingLaws Self.ZERO Self.ONE plus times };
 /// ```
-/// [`RingLaws`]
+/// [Notation](crate::definitions): [`RingLaws`]
 /// </details>
 pub trait RingElement: MatrixElement {}

@@ -53,7 +53,7 @@ impl FWord {
     /// ```text
     /// ensures { fword_number result ≡ raw }
     /// ```
-    /// [`fword_number`]
+    /// [Notation](crate::definitions): [`fword_number`]
     /// </details>
     #[must_use]
     #[inline]
@@ -68,7 +68,7 @@ impl FWord {
     /// ```text
     /// ensures { result ≡ fword_number self }
     /// ```
-    /// [`fword_number`]
+    /// [Notation](crate::definitions): [`fword_number`]
     /// </details>
     #[must_use]
     #[inline]
@@ -83,7 +83,7 @@ impl FWord {
     /// ```text
     /// ensures { fixed_bits result ≡ (fword_number self *ℤ pos (2 ^ 16)) }
     /// ```
-    /// [`fixed_bits`], [`fword_number`]
+    /// [Notation](crate::definitions): [`fixed_bits`], [`fword_number`]
     /// </details>
     #[must_use]
     #[inline]
@@ -98,7 +98,7 @@ impl FWord {
     /// ```text
     /// ensures { result ≡ (fword_number self *ℤ pos 65536 +ℤ f48dot16_bits delta) }
     /// ```
-    /// [`fword_number`], [`f48dot16_bits`]
+    /// [Notation](crate::definitions): [`fword_number`], [`f48dot16_bits`]
     /// </details>
     #[must_use]
     #[inline]
@@ -121,7 +121,7 @@ impl FWord {
     /// ensures variant { IsSome result ↔ FitsBits 16 (nearest_unit moved) }
     /// ensures value { IfSome result (λ word. fword_number word ≡ nearest_unit moved) }
     /// ```
-    /// [`FitsBits`], [`nearest_unit`], [`fword_number`]
+    /// [Notation](crate::definitions): [`FitsBits`], [`nearest_unit`], [`fword_number`]
     /// </details>
     #[must_use]
     #[inline]
@@ -146,7 +146,7 @@ impl FWord {
     /// ensures value { IfSome result (λ word. fword_number word
     ///     ≡ nearest_unit (fword_number self *ℤ pos 65536 +ℤ f48dot16_bits delta)) }
     /// ```
-    /// [`FitsBits`], [`nearest_unit`], [`fword_number`], [`f48dot16_bits`]
+    /// [Notation](crate::definitions): [`FitsBits`], [`nearest_unit`], [`fword_number`], [`f48dot16_bits`]
     /// </details>
     #[must_use]
     #[inline]
@@ -164,7 +164,7 @@ impl FWord {
     /// ```text
     /// ensures { result ≡ bytes_of 2 (fword_number self) }
     /// ```
-    /// [`bytes_of`], [`fword_number`]
+    /// [Notation](crate::definitions): [`bytes_of`], [`fword_number`]
     /// </details>
     #[must_use]
     #[inline]
@@ -178,7 +178,7 @@ impl FWord {
 /// ```text
 /// ghost output = { λ word. Some (signed_decimal (fword_number word)) };
 /// ```
-/// [`fword_number`]
+/// [Notation](crate::definitions): [`fword_number`]
 /// </details>
 impl fmt::Display for FWord {
     fn fmt(&self, f: &mut fmt::Formatter<'_>) -> fmt::Result {
@@ -191,7 +191,7 @@ impl fmt::Display for FWord {
 /// ```text
 /// ghost from_gives = { λ number word. fword_number word ≡ number };
 /// ```
-/// [`fword_number`]
+/// [Notation](crate::definitions): [`fword_number`]
 /// </details>
 impl From<i16> for FWord {
     #[inline]
@@ -205,7 +205,7 @@ impl From<i16> for FWord {
 /// ```text
 /// ghost from_gives = { λ word number. number ≡ fword_number word };
 /// ```
-/// [`fword_number`]
+/// [Notation](crate::definitions): [`fword_number`]
 /// </details>
 impl From<FWord> for i16 {
     #[inline]
@@ -219,7 +219,7 @@ impl From<FWord> for i16 {
 /// ```text
 /// ghost from_gives = { λ word number. number ≡ fword_number word };
 /// ```
-/// [`fword_number`]
+/// [Notation](crate::definitions): [`fword_number`]
 /// </details>
 impl From<FWord> for i32 {
     #[inline]
@@ -235,7 +235,7 @@ impl From<FWord> for i32 {
 /// ```text
 /// ghost from_gives = { λ word x. fixed_bits x ≡ (fword_number word *ℤ pos (2 ^ 16)) };
 /// ```
-/// [`fixed_bits`], [`fword_number`]
+/// [Notation](crate::definitions): [`fixed_bits`], [`fword_number`]
 /// </details>
 impl From<FWord> for Fixed {
     #[inline]
@@ -255,7 +255,7 @@ impl FixedSize for FWord {
 /// ghost of_raw = { λ raw. fword_of (signed_numeral 2 raw) };
 /// ghost raw_of = { λ word. bytes_of 2 (fword_number word) };
 /// ```
-/// [`fits_bits`], [`fword_number`], [`fword_of`], [`signed_numeral`], [`bytes_of`]
+/// [Notation](crate::definitions): [`fits_bits`], [`fword_number`], [`fword_of`], [`signed_numeral`], [`bytes_of`]
 /// </details>
 impl Scalar for FWord {
     type Raw = [u8; 2];
@@ -292,7 +292,7 @@ impl UfWord {
     /// ```text
     /// ensures { ufword_number result ≡ raw }
     /// ```
-    /// [`ufword_number`]
+    /// [Notation](crate::definitions): [`ufword_number`]
     /// </details>
     #[must_use]
     #[inline]
@@ -307,7 +307,7 @@ impl UfWord {
     /// ```text
     /// ensures { result ≡ ufword_number self }
     /// ```
-    /// [`ufword_number`]
+    /// [Notation](crate::definitions): [`ufword_number`]
     /// </details>
     #[must_use]
     #[inline]
@@ -322,7 +322,7 @@ impl UfWord {
     /// ```text
     /// ensures { fixed_bits result ≡ wrap 32 (pos (ufword_number self) *ℤ pos (2 ^ 16)) }
     /// ```
-    /// [`fixed_bits`], [`wrap`], [`ufword_number`]
+    /// [Notation](crate::definitions): [`fixed_bits`], [`wrap`], [`ufword_number`]
     /// </details>
     #[must_use]
     #[inline]
@@ -340,7 +340,7 @@ impl UfWord {
     /// ensures value { IfSome result
     ///     (λ number. fixed_bits number ≡ (pos (ufword_number self) *ℤ pos (2 ^ 16))) }
     /// ```
-    /// [`FitsBits`], [`ufword_number`], [`fixed_bits`]
+    /// [Notation](crate::definitions): [`FitsBits`], [`ufword_number`], [`fixed_bits`]
     /// </details>
     #[must_use]
     #[inline]
@@ -355,7 +355,7 @@ impl UfWord {
     /// ```text
     /// ensures { result ≡ (pos (ufword_number self) *ℤ pos 65536 +ℤ f48dot16_bits delta) }
     /// ```
-    /// [`ufword_number`], [`f48dot16_bits`]
+    /// [Notation](crate::definitions): [`ufword_number`], [`f48dot16_bits`]
     /// </details>
     #[must_use]
     #[inline]
@@ -373,7 +373,7 @@ impl UfWord {
     ///     ↔ ((pos 0 ≤ℤ nearest_unit moved) × (nearest_unit moved <ℤ pos 65536)) }
     /// ensures value { IfSome result (λ word. pos (ufword_number word) ≡ nearest_unit moved) }
     /// ```
-    /// [`nearest_unit`], [`ufword_number`]
+    /// [Notation](crate::definitions): [`nearest_unit`], [`ufword_number`]
     /// </details>
     #[must_use]
     #[inline]
@@ -394,7 +394,7 @@ impl UfWord {
     /// ensures value { IfSome result (λ word. pos (ufword_number word)
     ///     ≡ nearest_unit (pos (ufword_number self) *ℤ pos 65536 +ℤ f48dot16_bits delta)) }
     /// ```
-    /// [`nearest_unit`], [`ufword_number`], [`f48dot16_bits`]
+    /// [Notation](crate::definitions): [`nearest_unit`], [`ufword_number`], [`f48dot16_bits`]
     /// </details>
     #[must_use]
     #[inline]
@@ -410,7 +410,7 @@ impl UfWord {
     /// ```text
     /// ensures { result ≡ bytes_of 2 (pos (ufword_number self)) }
     /// ```
-    /// [`bytes_of`], [`ufword_number`]
+    /// [Notation](crate::definitions): [`bytes_of`], [`ufword_number`]
     /// </details>
     #[must_use]
     #[inline]
@@ -424,7 +424,7 @@ impl UfWord {
 /// ```text
 /// ghost output = { λ word. Some (decimal (ufword_number word)) };
 /// ```
-/// [`ufword_number`]
+/// [Notation](crate::definitions): [`ufword_number`]
 /// </details>
 impl fmt::Display for UfWord {
     fn fmt(&self, f: &mut fmt::Formatter<'_>) -> fmt::Result {
@@ -437,7 +437,7 @@ impl fmt::Display for UfWord {
 /// ```text
 /// ghost from_gives = { λ number word. ufword_number word ≡ number };
 /// ```
-/// [`ufword_number`]
+/// [Notation](crate::definitions): [`ufword_number`]
 /// </details>
 impl From<u16> for UfWord {
     #[inline]
@@ -451,7 +451,7 @@ impl From<u16> for UfWord {
 /// ```text
 /// ghost from_gives = { λ word number. number ≡ ufword_number word };
 /// ```
-/// [`ufword_number`]
+/// [Notation](crate::definitions): [`ufword_number`]
 /// </details>
 impl From<UfWord> for u16 {
     #[inline]
@@ -465,7 +465,7 @@ impl From<UfWord> for u16 {
 /// ```text
 /// ghost from_gives = { λ word number. number ≡ pos (ufword_number word) };
 /// ```
-/// [`ufword_number`]
+/// [Notation](crate::definitions): [`ufword_number`]
 /// </details>
 impl From<UfWord> for i32 {
     #[inline]
@@ -485,7 +485,7 @@ impl FixedSize for UfWord {
 /// ghost of_raw = { λ raw. ufword_of (numeral raw) };
 /// ghost raw_of = { λ word. bytes_of 2 (pos (ufword_number word)) };
 /// ```
-/// [`ufword_number`], [`ufword_of`], [`numeral`], [`bytes_of`]
+/// [Notation](crate::definitions): [`ufword_number`], [`ufword_of`], [`numeral`], [`bytes_of`]
 /// </details>
 impl Scalar for UfWord {
     type Raw = [u8; 2];

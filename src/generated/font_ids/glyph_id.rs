@@ -53,7 +53,7 @@ impl GlyphId16 {
     /// ```text
     /// ensures { glyph16_number result ≡ raw }
     /// ```
-    /// [`glyph16_number`]
+    /// [Notation](crate::definitions): [`glyph16_number`]
     /// </details>
     #[must_use]
     #[inline]
@@ -68,7 +68,7 @@ impl GlyphId16 {
     /// ```text
     /// ensures { result ≡ glyph16_number self }
     /// ```
-    /// [`glyph16_number`]
+    /// [Notation](crate::definitions): [`glyph16_number`]
     /// </details>
     #[must_use]
     #[inline]
@@ -83,7 +83,7 @@ impl GlyphId16 {
     /// ```text
     /// ensures { result ≡ glyph16_number self }
     /// ```
-    /// [`glyph16_number`]
+    /// [Notation](crate::definitions): [`glyph16_number`]
     /// </details>
     #[must_use]
     #[inline]
@@ -98,7 +98,7 @@ impl GlyphId16 {
     /// ```text
     /// ensures { result ≡ glyph16_number self }
     /// ```
-    /// [`glyph16_number`]
+    /// [Notation](crate::definitions): [`glyph16_number`]
     /// </details>
     #[must_use]
     #[inline]
@@ -113,7 +113,7 @@ impl GlyphId16 {
     /// ```text
     /// ensures { result ≡ bytes_of 2 (pos (glyph16_number self)) }
     /// ```
-    /// [`bytes_of`], [`glyph16_number`]
+    /// [Notation](crate::definitions): [`bytes_of`], [`glyph16_number`]
     /// </details>
     #[must_use]
     #[inline]
@@ -132,7 +132,7 @@ impl GlyphId16 {
     /// ```text
     /// ensures { IsTrue result ↔ (glyph16_number self.now ≡ glyph_number other.now) }
     /// ```
-    /// [`glyph16_number`], [`glyph_number`]
+    /// [Notation](crate::definitions): [`glyph16_number`], [`glyph_number`]
     /// </details>
     #[must_use]
     #[inline]
@@ -147,7 +147,7 @@ impl GlyphId16 {
     /// ```text
     /// ensures { result ≡ nat_cmp (glyph16_number self.now) (glyph_number other.now) }
     /// ```
-    /// [`glyph16_number`], [`glyph_number`]
+    /// [Notation](crate::definitions): [`glyph16_number`], [`glyph_number`]
     /// </details>
     #[must_use]
     #[inline]
@@ -161,7 +161,7 @@ impl GlyphId16 {
 /// ```text
 /// ghost output = { λ id. Some (glyph_text (glyph16_number id)) };
 /// ```
-/// [`glyph_text`], [`glyph16_number`]
+/// [Notation](crate::definitions): [`glyph_text`], [`glyph16_number`]
 /// </details>
 impl fmt::Display for GlyphId16 {
     fn fmt(&self, f: &mut fmt::Formatter<'_>) -> fmt::Result {
@@ -174,7 +174,7 @@ impl fmt::Display for GlyphId16 {
 /// ```text
 /// ghost from_gives = { λ number id. glyph16_number id ≡ number };
 /// ```
-/// [`glyph16_number`]
+/// [Notation](crate::definitions): [`glyph16_number`]
 /// </details>
 impl From<u16> for GlyphId16 {
     #[inline]
@@ -188,7 +188,7 @@ impl From<u16> for GlyphId16 {
 /// ```text
 /// ghost from_gives = { λ id number. number ≡ glyph16_number id };
 /// ```
-/// [`glyph16_number`]
+/// [Notation](crate::definitions): [`glyph16_number`]
 /// </details>
 impl From<GlyphId16> for u16 {
     #[inline]
@@ -202,7 +202,7 @@ impl From<GlyphId16> for u16 {
 /// ```text
 /// ghost from_gives = { λ id number. number ≡ glyph16_number id };
 /// ```
-/// [`glyph16_number`]
+/// [Notation](crate::definitions): [`glyph16_number`]
 /// </details>
 impl From<GlyphId16> for u32 {
     #[inline]
@@ -216,7 +216,7 @@ impl From<GlyphId16> for u32 {
 /// ```text
 /// ghost from_gives = { λ id number. number ≡ glyph16_number id };
 /// ```
-/// [`glyph16_number`]
+/// [Notation](crate::definitions): [`glyph16_number`]
 /// </details>
 impl From<GlyphId16> for usize {
     #[inline]
@@ -234,7 +234,7 @@ impl From<GlyphId16> for usize {
 ///     (λ narrow. glyph16_number narrow ≡ glyph_number id)
 ///     (λ error. (2 ^ 16 ≤ glyph_number id) × (refused_number error ≡ glyph_number id)) };
 /// ```
-/// [`glyph16_number`], [`glyph_number`], [`refused_number`]
+/// [Notation](crate::definitions): [`glyph16_number`], [`glyph_number`], [`refused_number`]
 /// </details>
 impl TryFrom<GlyphId> for GlyphId16 {
     type Error = TryFromGlyphIdError;
@@ -259,7 +259,7 @@ impl FixedSize for GlyphId16 {
 /// ghost of_raw = { λ raw. glyph16_of (numeral raw) };
 /// ghost raw_of = { λ id. bytes_of 2 (pos (glyph16_number id)) };
 /// ```
-/// [`glyph16_number`], [`glyph16_of`], [`numeral`], [`bytes_of`]
+/// [Notation](crate::definitions): [`glyph16_number`], [`glyph16_of`], [`numeral`], [`bytes_of`]
 /// </details>
 impl Scalar for GlyphId16 {
     type Raw = [u8; 2];
@@ -299,7 +299,7 @@ impl GlyphId24 {
     /// ```text
     /// ensures { glyph24_number result ≡ min raw UINT24_MAX }
     /// ```
-    /// [`glyph24_number`], [`UINT24_MAX`]
+    /// [Notation](crate::definitions): [`glyph24_number`], [`UINT24_MAX`]
     /// </details>
     #[must_use]
     #[inline]
@@ -315,7 +315,7 @@ impl GlyphId24 {
     /// ensures variant { IsSome result ↔ (raw ≤ UINT24_MAX) }
     /// ensures value { IfSome result (λ id. glyph24_number id ≡ raw) }
     /// ```
-    /// [`UINT24_MAX`], [`glyph24_number`]
+    /// [Notation](crate::definitions): [`UINT24_MAX`], [`glyph24_number`]
     /// </details>
     #[must_use]
     #[inline]
@@ -333,7 +333,7 @@ impl GlyphId24 {
     /// ```text
     /// ensures { result ≡ glyph24_number self }
     /// ```
-    /// [`glyph24_number`]
+    /// [Notation](crate::definitions): [`glyph24_number`]
     /// </details>
     #[must_use]
     #[inline]
@@ -348,7 +348,7 @@ impl GlyphId24 {
     /// ```text
     /// ensures { result ≡ glyph24_number self }
     /// ```
-    /// [`glyph24_number`]
+    /// [Notation](crate::definitions): [`glyph24_number`]
     /// </details>
     #[must_use]
     #[inline]
@@ -363,7 +363,7 @@ impl GlyphId24 {
     /// ```text
     /// ensures { result ≡ bytes_of 3 (pos (glyph24_number self)) }
     /// ```
-    /// [`bytes_of`], [`glyph24_number`]
+    /// [Notation](crate::definitions): [`bytes_of`], [`glyph24_number`]
     /// </details>
     #[must_use]
     #[inline]
@@ -378,7 +378,7 @@ impl GlyphId24 {
     /// ```text
     /// ensures { bytes ≡ bytes_of 3 (pos (glyph24_number result)) }
     /// ```
-    /// [`bytes_of`], [`glyph24_number`]
+    /// [Notation](crate::definitions): [`bytes_of`], [`glyph24_number`]
     /// </details>
     #[must_use]
     #[inline]
@@ -392,7 +392,7 @@ impl GlyphId24 {
 /// ```text
 /// ghost output = { λ id. Some (glyph_text (glyph24_number id)) };
 /// ```
-/// [`glyph_text`], [`glyph24_number`]
+/// [Notation](crate::definitions): [`glyph_text`], [`glyph24_number`]
 /// </details>
 impl fmt::Display for GlyphId24 {
     fn fmt(&self, f: &mut fmt::Formatter<'_>) -> fmt::Result {
@@ -405,7 +405,7 @@ impl fmt::Display for GlyphId24 {
 /// ```text
 /// ghost from_gives = { λ id number. number ≡ glyph24_number id };
 /// ```
-/// [`glyph24_number`]
+/// [Notation](crate::definitions): [`glyph24_number`]
 /// </details>
 impl From<GlyphId24> for u32 {
     #[inline]
@@ -419,7 +419,7 @@ impl From<GlyphId24> for u32 {
 /// ```text
 /// ghost from_gives = { λ id number. number ≡ glyph24_number id };
 /// ```
-/// [`glyph24_number`]
+/// [Notation](crate::definitions): [`glyph24_number`]
 /// </details>
 impl From<GlyphId24> for usize {
     #[inline]
@@ -437,7 +437,7 @@ impl From<GlyphId24> for usize {
 ///     (λ narrow. glyph24_number narrow ≡ glyph_number id)
 ///     (λ error. (2 ^ 24 ≤ glyph_number id) × (refused_number error ≡ glyph_number id)) };
 /// ```
-/// [`glyph24_number`], [`glyph_number`], [`refused_number`]
+/// [Notation](crate::definitions): [`glyph24_number`], [`glyph_number`], [`refused_number`]
 /// </details>
 impl TryFrom<GlyphId> for GlyphId24 {
     type Error = TryFromGlyphIdError;
@@ -462,7 +462,7 @@ impl FixedSize for GlyphId24 {
 /// ghost of_raw = { λ raw. glyph24_of (uint24_of_bytes raw) };
 /// ghost raw_of = { λ id. bytes_of_uint24 id.0 };
 /// ```
-/// [`glyph24_of`], [`uint24_of_bytes`], [`bytes_of_uint24`]
+/// [Notation](crate::definitions): [`glyph24_of`], [`uint24_of_bytes`], [`bytes_of_uint24`]
 /// </details>
 impl Scalar for GlyphId24 {
     type Raw = [u8; 3];
@@ -502,7 +502,7 @@ impl GlyphId {
     /// ```text
     /// ensures { glyph_number result ≡ raw }
     /// ```
-    /// [`glyph_number`]
+    /// [Notation](crate::definitions): [`glyph_number`]
     /// </details>
     #[must_use]
     #[inline]
@@ -517,7 +517,7 @@ impl GlyphId {
     /// ```text
     /// ensures { result ≡ glyph_number self }
     /// ```
-    /// [`glyph_number`]
+    /// [Notation](crate::definitions): [`glyph_number`]
     /// </details>
     #[must_use]
     #[inline]
@@ -532,7 +532,7 @@ impl GlyphId {
     /// ```text
     /// ensures { result ≡ glyph_number self }
     /// ```
-    /// [`glyph_number`]
+    /// [Notation](crate::definitions): [`glyph_number`]
     /// </details>
     #[must_use]
     #[inline]
@@ -551,7 +551,7 @@ impl GlyphId {
     /// ```text
     /// ensures { IsTrue result ↔ (glyph_number self.now ≡ glyph16_number other.now) }
     /// ```
-    /// [`glyph_number`], [`glyph16_number`]
+    /// [Notation](crate::definitions): [`glyph_number`], [`glyph16_number`]
     /// </details>
     #[must_use]
     #[inline]
@@ -566,7 +566,7 @@ impl GlyphId {
     /// ```text
     /// ensures { result ≡ nat_cmp (glyph_number self.now) (glyph16_number other.now) }
     /// ```
-    /// [`glyph_number`], [`glyph16_number`]
+    /// [Notation](crate::definitions): [`glyph_number`], [`glyph16_number`]
     /// </details>
     #[must_use]
     #[inline]
@@ -580,7 +580,7 @@ impl GlyphId {
 /// ```text
 /// ghost output = { λ id. Some (glyph_text (glyph_number id)) };
 /// ```
-/// [`glyph_text`], [`glyph_number`]
+/// [Notation](crate::definitions): [`glyph_text`], [`glyph_number`]
 /// </details>
 impl fmt::Display for GlyphId {
     fn fmt(&self, f: &mut fmt::Formatter<'_>) -> fmt::Result {
@@ -593,7 +593,7 @@ impl fmt::Display for GlyphId {
 /// ```text
 /// ghost from_gives = { λ number id. glyph_number id ≡ number };
 /// ```
-/// [`glyph_number`]
+/// [Notation](crate::definitions): [`glyph_number`]
 /// </details>
 impl From<u16> for GlyphId {
     #[inline]
@@ -607,7 +607,7 @@ impl From<u16> for GlyphId {
 /// ```text
 /// ghost from_gives = { λ number id. glyph_number id ≡ number };
 /// ```
-/// [`glyph_number`]
+/// [Notation](crate::definitions): [`glyph_number`]
 /// </details>
 impl From<u32> for GlyphId {
     #[inline]
@@ -621,7 +621,7 @@ impl From<u32> for GlyphId {
 /// ```text
 /// ghost from_gives = { λ narrow id. glyph_number id ≡ glyph16_number narrow };
 /// ```
-/// [`glyph_number`], [`glyph16_number`]
+/// [Notation](crate::definitions): [`glyph_number`], [`glyph16_number`]
 /// </details>
 impl From<GlyphId16> for GlyphId {
     #[inline]
@@ -635,7 +635,7 @@ impl From<GlyphId16> for GlyphId {
 /// ```text
 /// ghost from_gives = { λ narrow id. glyph_number id ≡ glyph24_number narrow };
 /// ```
-/// [`glyph_number`], [`glyph24_number`]
+/// [Notation](crate::definitions): [`glyph_number`], [`glyph24_number`]
 /// </details>
 impl From<GlyphId24> for GlyphId {
     #[inline]
@@ -649,7 +649,7 @@ impl From<GlyphId24> for GlyphId {
 /// ```text
 /// ghost from_gives = { λ id number. number ≡ glyph_number id };
 /// ```
-/// [`glyph_number`]
+/// [Notation](crate::definitions): [`glyph_number`]
 /// </details>
 impl From<GlyphId> for u32 {
     #[inline]
@@ -688,7 +688,7 @@ impl TryFromGlyphIdError {
     /// ```text
     /// ensures { result ≡ refused_number self.now }
     /// ```
-    /// [`refused_number`]
+    /// [Notation](crate::definitions): [`refused_number`]
     /// </details>
     #[must_use]
     #[inline]

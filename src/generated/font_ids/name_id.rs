@@ -128,7 +128,7 @@ impl NameId {
     /// ```text
     /// ensures { name_number result ≡ raw }
     /// ```
-    /// [`name_number`]
+    /// [Notation](crate::definitions): [`name_number`]
     /// </details>
     #[must_use]
     #[inline]
@@ -144,7 +144,7 @@ impl NameId {
     /// ensures ids { predefined_left result ≡ map name_id_of predefined_numbers }
     /// ensures count { length (predefined_left result) ≡ 25 }
     /// ```
-    /// [`predefined_left`], [`name_id_of`], [`predefined_numbers`]
+    /// [Notation](crate::definitions): [`predefined_left`], [`name_id_of`], [`predefined_numbers`]
     /// </details>
     #[must_use]
     #[inline]
@@ -159,7 +159,7 @@ impl NameId {
     /// ```text
     /// ensures { result ≡ name_number self }
     /// ```
-    /// [`name_number`]
+    /// [Notation](crate::definitions): [`name_number`]
     /// </details>
     #[must_use]
     #[inline]
@@ -174,7 +174,7 @@ impl NameId {
     /// ```text
     /// ensures { IsTrue result ↔ (name_number self ≤ last_reserved) }
     /// ```
-    /// [`name_number`], [`last_reserved`]
+    /// [Notation](crate::definitions): [`name_number`], [`last_reserved`]
     /// </details>
     #[must_use]
     #[inline]
@@ -190,7 +190,7 @@ impl NameId {
     /// ensures variant { IsSome result ↔ (name_number self + rhs ≤ last_allowed) }
     /// ensures value { IfSome result (λ id. name_number id ≡ name_number self + rhs) }
     /// ```
-    /// [`name_number`], [`last_allowed`]
+    /// [Notation](crate::definitions): [`name_number`], [`last_allowed`]
     /// </details>
     #[must_use]
     #[inline]
@@ -206,7 +206,7 @@ impl NameId {
     /// ```text
     /// ensures { result ≡ bytes_of 2 (pos (name_number self)) }
     /// ```
-    /// [`bytes_of`], [`name_number`]
+    /// [Notation](crate::definitions): [`bytes_of`], [`name_number`]
     /// </details>
     #[must_use]
     #[inline]
@@ -222,7 +222,7 @@ impl NameId {
 /// ```text
 /// ghost is_default = { λ id. name_number id ≡ 65535 };
 /// ```
-/// [`name_number`]
+/// [Notation](crate::definitions): [`name_number`]
 /// </details>
 impl Default for NameId {
     #[inline]
@@ -236,7 +236,7 @@ impl Default for NameId {
 /// ```text
 /// ghost from_gives = { λ number id. name_number id ≡ number };
 /// ```
-/// [`name_number`]
+/// [Notation](crate::definitions): [`name_number`]
 /// </details>
 impl From<u16> for NameId {
     #[inline]
@@ -250,7 +250,7 @@ impl From<u16> for NameId {
 /// ```text
 /// ghost from_gives = { λ id number. number ≡ name_number id };
 /// ```
-/// [`name_number`]
+/// [Notation](crate::definitions): [`name_number`]
 /// </details>
 impl From<NameId> for u16 {
     #[inline]
@@ -266,7 +266,7 @@ impl From<NameId> for u16 {
 /// ```text
 /// ghost debug_output = { λ id. Some (name_text (name_number id)) };
 /// ```
-/// [`name_text`], [`name_number`]
+/// [Notation](crate::definitions): [`name_text`], [`name_number`]
 /// </details>
 impl fmt::Debug for NameId {
     fn fmt(&self, f: &mut fmt::Formatter<'_>) -> fmt::Result {
@@ -309,7 +309,7 @@ impl fmt::Debug for NameId {
 /// ```text
 /// ghost output = { λ id. Some (name_text (name_number id)) };
 /// ```
-/// [`name_text`], [`name_number`]
+/// [Notation](crate::definitions): [`name_text`], [`name_number`]
 /// </details>
 impl fmt::Display for NameId {
     fn fmt(&self, f: &mut fmt::Formatter<'_>) -> fmt::Result {
@@ -328,7 +328,7 @@ impl FixedSize for NameId {
 /// ghost of_raw = { λ raw. name_id_of (numeral raw) };
 /// ghost raw_of = { λ id. bytes_of 2 (pos (name_number id)) };
 /// ```
-/// [`name_number`], [`name_id_of`], [`numeral`], [`bytes_of`]
+/// [Notation](crate::definitions): [`name_number`], [`name_id_of`], [`numeral`], [`bytes_of`]
 /// </details>
 impl Scalar for NameId {
     type Raw = [u8; 2];
@@ -365,7 +365,7 @@ pub struct Predefined {
 /// ghost next_gives = { YieldsFirst predefined_left };
 /// ghost remaining = { item_count predefined_left };
 /// ```
-/// [`predefined_left`]
+/// [Notation](crate::definitions): [`predefined_left`]
 /// </details>
 impl Iterator for Predefined {
     type Item = NameId;

@@ -51,7 +51,7 @@ impl Offset16 {
     /// ```text
     /// ensures { offset16_number result ≡ raw }
     /// ```
-    /// [`offset16_number`]
+    /// [Notation](crate::definitions): [`offset16_number`]
     /// </details>
     #[must_use]
     #[inline]
@@ -66,7 +66,7 @@ impl Offset16 {
     /// ```text
     /// ensures { IsTrue result ↔ (offset16_number self ≡ 0) }
     /// ```
-    /// [`offset16_number`]
+    /// [Notation](crate::definitions): [`offset16_number`]
     /// </details>
     #[must_use]
     #[inline]
@@ -81,7 +81,7 @@ impl Offset16 {
     /// ```text
     /// ensures { result ≡ offset16_number self }
     /// ```
-    /// [`offset16_number`]
+    /// [Notation](crate::definitions): [`offset16_number`]
     /// </details>
     #[must_use]
     #[inline]
@@ -96,7 +96,7 @@ impl Offset16 {
     /// ```text
     /// ensures { result ≡ offset16_number self }
     /// ```
-    /// [`offset16_number`]
+    /// [Notation](crate::definitions): [`offset16_number`]
     /// </details>
     #[must_use]
     #[inline]
@@ -115,7 +115,7 @@ impl Offset16 {
     /// ```text
     /// ensures { IsTrue result ↔ (offset16_number self.now ≡ other.now) }
     /// ```
-    /// [`offset16_number`]
+    /// [Notation](crate::definitions): [`offset16_number`]
     /// </details>
     #[must_use]
     #[inline]
@@ -129,7 +129,7 @@ impl Offset16 {
 /// ```text
 /// ghost from_gives = { λ offset number. number ≡ offset16_number offset };
 /// ```
-/// [`offset16_number`]
+/// [Notation](crate::definitions): [`offset16_number`]
 /// </details>
 impl From<Offset16> for usize {
     #[inline]
@@ -149,7 +149,7 @@ impl FixedSize for Offset16 {
 /// ghost of_raw = { λ raw. offset16_of (numeral raw) };
 /// ghost raw_of = { λ offset. bytes_of 2 (pos (offset16_number offset)) };
 /// ```
-/// [`offset16_number`], [`offset16_of`], [`numeral`], [`bytes_of`]
+/// [Notation](crate::definitions): [`offset16_number`], [`offset16_of`], [`numeral`], [`bytes_of`]
 /// </details>
 impl Scalar for Offset16 {
     type Raw = [u8; 2];
@@ -187,7 +187,7 @@ impl Offset24 {
     /// ```text
     /// ensures { offset24_number result ≡ uint24_number raw }
     /// ```
-    /// [`offset24_number`], [`uint24_number`]
+    /// [Notation](crate::definitions): [`offset24_number`], [`uint24_number`]
     /// </details>
     #[must_use]
     #[inline]
@@ -202,7 +202,7 @@ impl Offset24 {
     /// ```text
     /// ensures { IsTrue result ↔ (offset24_number self ≡ 0) }
     /// ```
-    /// [`offset24_number`]
+    /// [Notation](crate::definitions): [`offset24_number`]
     /// </details>
     #[must_use]
     #[inline]
@@ -217,7 +217,7 @@ impl Offset24 {
     /// ```text
     /// ensures { result ≡ offset24_number self }
     /// ```
-    /// [`offset24_number`]
+    /// [Notation](crate::definitions): [`offset24_number`]
     /// </details>
     #[must_use]
     #[inline]
@@ -232,7 +232,7 @@ impl Offset24 {
     /// ```text
     /// ensures { result ≡ offset24_number self }
     /// ```
-    /// [`offset24_number`]
+    /// [Notation](crate::definitions): [`offset24_number`]
     /// </details>
     #[must_use]
     #[inline]
@@ -251,7 +251,7 @@ impl Offset24 {
     /// ```text
     /// ensures { IsTrue result ↔ (offset24_number self.now ≡ other.now) }
     /// ```
-    /// [`offset24_number`]
+    /// [Notation](crate::definitions): [`offset24_number`]
     /// </details>
     #[must_use]
     #[inline]
@@ -265,7 +265,7 @@ impl Offset24 {
 /// ```text
 /// ghost from_gives = { λ offset number. number ≡ offset24_number offset };
 /// ```
-/// [`offset24_number`]
+/// [Notation](crate::definitions): [`offset24_number`]
 /// </details>
 impl From<Offset24> for usize {
     #[inline]
@@ -285,7 +285,7 @@ impl FixedSize for Offset24 {
 /// ghost of_raw = { λ raw. offset24_of (uint24_of_bytes raw) };
 /// ghost raw_of = { λ offset. bytes_of_uint24 offset.0 };
 /// ```
-/// [`offset24_of`], [`uint24_of_bytes`], [`bytes_of_uint24`]
+/// [Notation](crate::definitions): [`offset24_of`], [`uint24_of_bytes`], [`bytes_of_uint24`]
 /// </details>
 impl Scalar for Offset24 {
     type Raw = [u8; 3];
@@ -323,7 +323,7 @@ impl Offset32 {
     /// ```text
     /// ensures { offset32_number result ≡ raw }
     /// ```
-    /// [`offset32_number`]
+    /// [Notation](crate::definitions): [`offset32_number`]
     /// </details>
     #[must_use]
     #[inline]
@@ -338,7 +338,7 @@ impl Offset32 {
     /// ```text
     /// ensures { IsTrue result ↔ (offset32_number self ≡ 0) }
     /// ```
-    /// [`offset32_number`]
+    /// [Notation](crate::definitions): [`offset32_number`]
     /// </details>
     #[must_use]
     #[inline]
@@ -353,7 +353,7 @@ impl Offset32 {
     /// ```text
     /// ensures { result ≡ offset32_number self }
     /// ```
-    /// [`offset32_number`]
+    /// [Notation](crate::definitions): [`offset32_number`]
     /// </details>
     #[must_use]
     #[inline]
@@ -368,7 +368,7 @@ impl Offset32 {
     /// ```text
     /// ensures { result ≡ offset32_number self }
     /// ```
-    /// [`offset32_number`]
+    /// [Notation](crate::definitions): [`offset32_number`]
     /// </details>
     #[must_use]
     #[inline]
@@ -387,7 +387,7 @@ impl Offset32 {
     /// ```text
     /// ensures { IsTrue result ↔ (offset32_number self.now ≡ other.now) }
     /// ```
-    /// [`offset32_number`]
+    /// [Notation](crate::definitions): [`offset32_number`]
     /// </details>
     #[must_use]
     #[inline]
@@ -407,7 +407,7 @@ impl FixedSize for Offset32 {
 /// ghost of_raw = { λ raw. offset32_of (numeral raw) };
 /// ghost raw_of = { λ offset. bytes_of 4 (pos (offset32_number offset)) };
 /// ```
-/// [`offset32_number`], [`offset32_of`], [`numeral`], [`bytes_of`]
+/// [Notation](crate::definitions): [`offset32_number`], [`offset32_of`], [`numeral`], [`bytes_of`]
 /// </details>
 impl Scalar for Offset32 {
     type Raw = [u8; 4];
@@ -443,6 +443,7 @@ impl IdentityEq for Offset32 {}
 /// // Null is zero.
 /// ghost null_is_zero: { number_of NULL ≡ 0 };
 /// ```
+/// [Notation](crate::definitions)
 /// </details>
 pub trait OffsetValue: Copy {
     /// The null offset, 0.
@@ -455,6 +456,7 @@ pub trait OffsetValue: Copy {
     /// ```text
     /// ensures { result ≡ number_of self.now }
     /// ```
+    /// [Notation](crate::definitions)
     /// </details>
     #[must_use]
     fn value_u32(&self) -> u32;
@@ -474,6 +476,7 @@ pub trait OffsetValue: Copy {
     /// ```text
     /// ensures { result ≡ number_of self }
     /// ```
+    /// [Notation](crate::definitions)
     /// </details>
     #[must_use]
     #[inline]
@@ -487,7 +490,7 @@ pub trait OffsetValue: Copy {
 /// ```text
 /// ghost number_of = { offset16_number };
 /// ```
-/// [`offset16_number`]
+/// [Notation](crate::definitions): [`offset16_number`]
 /// </details>
 impl OffsetValue for Offset16 {
     const NULL: Offset16 = Offset16(0);
@@ -503,7 +506,7 @@ impl OffsetValue for Offset16 {
 /// ```text
 /// ghost number_of = { offset24_number };
 /// ```
-/// [`offset24_number`]
+/// [Notation](crate::definitions): [`offset24_number`]
 /// </details>
 impl OffsetValue for Offset24 {
     const NULL: Offset24 = Offset24(Uint24::MIN);
@@ -519,7 +522,7 @@ impl OffsetValue for Offset24 {
 /// ```text
 /// ghost number_of = { offset32_number };
 /// ```
-/// [`offset32_number`]
+/// [Notation](crate::definitions): [`offset32_number`]
 /// </details>
 impl OffsetValue for Offset32 {
     const NULL: Offset32 = Offset32(0);
@@ -549,7 +552,7 @@ impl<T> Nullable<T> {
     /// ```text
     /// ensures { result.now ≡ nullable_offset self.now }
     /// ```
-    /// [`nullable_offset`]
+    /// [Notation](crate::definitions): [`nullable_offset`]
     /// </details>
     #[must_use]
     #[inline]
@@ -566,7 +569,7 @@ impl<T: OffsetValue> Nullable<T> {
     /// ```text
     /// ensures { IsTrue result ↔ (T.number_of (nullable_offset self.now) ≡ 0) }
     /// ```
-    /// [`nullable_offset`]
+    /// [Notation](crate::definitions): [`nullable_offset`]
     /// </details>
     #[must_use]
     #[inline]
@@ -582,7 +585,7 @@ impl<T: OffsetValue> Nullable<T> {
     /// ensures variant { IsNone result ↔ (T.number_of (nullable_offset self) ≡ 0) }
     /// ensures value { IfSome result (λ offset. offset ≡ nullable_offset self) }
     /// ```
-    /// [`nullable_offset`]
+    /// [Notation](crate::definitions): [`nullable_offset`]
     /// </details>
     #[must_use]
     #[inline]
@@ -601,7 +604,7 @@ impl<T: OffsetValue> Nullable<T> {
     /// ```text
     /// ensures { IsTrue result ↔ (T.number_of (nullable_offset self.now) ≡ other.now) }
     /// ```
-    /// [`nullable_offset`]
+    /// [Notation](crate::definitions): [`nullable_offset`]
     /// </details>
     #[must_use]
     #[inline]
@@ -617,7 +620,7 @@ impl<T: OffsetValue> Nullable<T> {
 /// ```text
 /// ghost is_default = { λ nullable. nullable_offset nullable ≡ T.NULL };
 /// ```
-/// [`nullable_offset`]
+/// [Notation](crate::definitions): [`nullable_offset`]
 /// </details>
 impl<T: OffsetValue> Default for Nullable<T> {
     #[inline]
@@ -637,7 +640,7 @@ impl<T: FixedSize> FixedSize for Nullable<T> {
 /// ghost of_raw = { λ raw. nullable_of (T.of_raw raw) };
 /// ghost raw_of = { λ nullable. T.raw_of (nullable_offset nullable) };
 /// ```
-/// [`nullable_offset`], [`nullable_of`]
+/// [Notation](crate::definitions): [`nullable_offset`], [`nullable_of`]
 /// </details>
 impl<T: Scalar> Scalar for Nullable<T> {
     type Raw = T::Raw;

@@ -35,7 +35,7 @@ impl LongDateTime {
     /// ```text
     /// ensures { date_seconds result ≡ secs }
     /// ```
-    /// [`date_seconds`]
+    /// [Notation](crate::definitions): [`date_seconds`]
     /// </details>
     #[must_use]
     #[inline]
@@ -50,7 +50,7 @@ impl LongDateTime {
     /// ```text
     /// ensures { result ≡ date_seconds self.now }
     /// ```
-    /// [`date_seconds`]
+    /// [Notation](crate::definitions): [`date_seconds`]
     /// </details>
     #[must_use]
     #[inline]
@@ -65,7 +65,7 @@ impl LongDateTime {
     /// ```text
     /// ensures { result ≡ bytes_of 8 (date_seconds self) }
     /// ```
-    /// [`bytes_of`], [`date_seconds`]
+    /// [Notation](crate::definitions): [`bytes_of`], [`date_seconds`]
     /// </details>
     #[must_use]
     #[inline]
@@ -85,7 +85,7 @@ impl FixedSize for LongDateTime {
 /// ghost of_raw = { λ raw. date_of (signed_numeral 8 raw) };
 /// ghost raw_of = { λ date. bytes_of 8 (date_seconds date) };
 /// ```
-/// [`fits_bits`], [`date_seconds`], [`date_of`], [`signed_numeral`], [`bytes_of`]
+/// [Notation](crate::definitions): [`fits_bits`], [`date_seconds`], [`date_of`], [`signed_numeral`], [`bytes_of`]
 /// </details>
 impl Scalar for LongDateTime {
     type Raw = [u8; 8];

@@ -57,7 +57,7 @@ impl Tag {
     /// ```text
     /// ensures { tag_bytes result ≡ src.now }
     /// ```
-    /// [`tag_bytes`]
+    /// [Notation](crate::definitions): [`tag_bytes`]
     /// </details>
     #[must_use]
     #[inline]
@@ -82,7 +82,7 @@ impl Tag {
     /// ensures ok { IsOk result ↔ IsAcceptable src.now }
     /// ensures valid { IfOk result (λ tag. IsGood (tag_bytes tag)) }
     /// ```
-    /// [`IsChecked`], [`IsAcceptable`], [`IsGood`], [`tag_bytes`]
+    /// [Notation](crate::definitions): [`IsChecked`], [`IsAcceptable`], [`IsGood`], [`tag_bytes`]
     /// </details>
     #[inline]
     pub const fn new_checked(src: &[u8]) -> Result<Self, InvalidTag> {
@@ -106,7 +106,7 @@ impl Tag {
     /// ```text
     /// ensures { tag_bytes result ≡ bytes_of 4 (pos src) }
     /// ```
-    /// [`tag_bytes`], [`bytes_of`]
+    /// [Notation](crate::definitions): [`tag_bytes`], [`bytes_of`]
     /// </details>
     #[must_use]
     #[inline]
@@ -121,7 +121,7 @@ impl Tag {
     /// ```text
     /// ensures { result ≡ numeral (tag_bytes self) }
     /// ```
-    /// [`numeral`], [`tag_bytes`]
+    /// [Notation](crate::definitions): [`numeral`], [`tag_bytes`]
     /// </details>
     #[must_use]
     #[inline]
@@ -136,7 +136,7 @@ impl Tag {
     /// ```text
     /// ensures { tag_bytes result ≡ bytes }
     /// ```
-    /// [`tag_bytes`]
+    /// [Notation](crate::definitions): [`tag_bytes`]
     /// </details>
     #[must_use]
     #[inline]
@@ -151,7 +151,7 @@ impl Tag {
     /// ```text
     /// ensures { result ≡ tag_bytes self }
     /// ```
-    /// [`tag_bytes`]
+    /// [Notation](crate::definitions): [`tag_bytes`]
     /// </details>
     #[must_use]
     #[inline]
@@ -166,7 +166,7 @@ impl Tag {
     /// ```text
     /// ensures { result ≡ tag_bytes self }
     /// ```
-    /// [`tag_bytes`]
+    /// [Notation](crate::definitions): [`tag_bytes`]
     /// </details>
     #[must_use]
     #[inline]
@@ -181,7 +181,7 @@ impl Tag {
     /// ```text
     /// ensures { result.now ≡ tag_bytes self.now }
     /// ```
-    /// [`tag_bytes`]
+    /// [Notation](crate::definitions): [`tag_bytes`]
     /// </details>
     #[must_use]
     #[inline]
@@ -203,7 +203,7 @@ impl Tag {
     /// ensures judged { IsValidated (tag_bytes self) result }
     /// ensures ok { IsOk result ↔ IsGood (tag_bytes self) }
     /// ```
-    /// [`IsValidated`], [`tag_bytes`], [`IsGood`]
+    /// [Notation](crate::definitions): [`IsValidated`], [`tag_bytes`], [`IsGood`]
     /// </details>
     #[inline]
     pub fn validate(self) -> Result<(), InvalidTag> {
@@ -228,7 +228,7 @@ impl Tag {
     /// ```text
     /// ensures { IsTrue result ↔ (tag_bytes self.now ≡ other.now) }
     /// ```
-    /// [`tag_bytes`]
+    /// [Notation](crate::definitions): [`tag_bytes`]
     /// </details>
     #[must_use]
     #[inline]
@@ -243,7 +243,7 @@ impl Tag {
     /// ```text
     /// ensures { IsTrue result ↔ (tag_bytes self.now ≡ other.now) }
     /// ```
-    /// [`tag_bytes`]
+    /// [Notation](crate::definitions): [`tag_bytes`]
     /// </details>
     #[must_use]
     #[inline]
@@ -258,7 +258,7 @@ impl Tag {
     /// ```text
     /// ensures { IsTrue result ↔ (tag_bytes self.now ≡ other.now) }
     /// ```
-    /// [`tag_bytes`]
+    /// [Notation](crate::definitions): [`tag_bytes`]
     /// </details>
     #[must_use]
     #[inline]
@@ -348,7 +348,7 @@ impl Copy for InvalidTag {}
 /// ```text
 /// ghost partial_cmp = { λ a b. Some (slice_cmp nat_cmp (tag_bytes a) (tag_bytes b)) };
 /// ```
-/// [`tag_bytes`]
+/// [Notation](crate::definitions): [`tag_bytes`]
 /// </details>
 impl PartialOrd for Tag {
     #[inline]
@@ -362,7 +362,7 @@ impl PartialOrd for Tag {
 /// ```text
 /// ghost cmp = { on tag_bytes (slice_cmp nat_cmp) };
 /// ```
-/// [`tag_bytes`]
+/// [Notation](crate::definitions): [`tag_bytes`]
 /// </details>
 impl Ord for Tag {
     #[inline]
@@ -378,7 +378,7 @@ impl Ord for Tag {
 /// ```text
 /// ghost from_str_gives = { IsChecked };
 /// ```
-/// [`IsChecked`]
+/// [Notation](crate::definitions): [`IsChecked`]
 /// </details>
 impl FromStr for Tag {
     type Err = InvalidTag;
@@ -396,7 +396,7 @@ impl FromStr for Tag {
 /// ```text
 /// ghost is_default = { λ tag. tag_bytes tag ≡ four_spaces };
 /// ```
-/// [`tag_bytes`], [`four_spaces`]
+/// [Notation](crate::definitions): [`tag_bytes`], [`four_spaces`]
 /// </details>
 impl Default for Tag {
     #[inline]
@@ -410,7 +410,7 @@ impl Default for Tag {
 /// ```text
 /// ghost output = { λ tag. Some (tag_text (tag_bytes tag)) };
 /// ```
-/// [`tag_text`], [`tag_bytes`]
+/// [Notation](crate::definitions): [`tag_text`], [`tag_bytes`]
 /// </details>
 impl fmt::Display for Tag {
     fn fmt(&self, f: &mut fmt::Formatter<'_>) -> fmt::Result {
@@ -435,7 +435,7 @@ fn write_byte(f: &mut fmt::Formatter<'_>, byte: u8) -> fmt::Result {
 /// ```text
 /// ghost debug_output = { λ tag. Some (codes "Tag(" ++ tag_text (tag_bytes tag) ++ codes ")") };
 /// ```
-/// [`tag_text`], [`tag_bytes`]
+/// [Notation](crate::definitions): [`tag_text`], [`tag_bytes`]
 /// </details>
 impl fmt::Debug for Tag {
     fn fmt(&self, f: &mut fmt::Formatter<'_>) -> fmt::Result {
@@ -454,7 +454,7 @@ impl FixedSize for Tag {
 /// ghost of_raw = { tag_of };
 /// ghost raw_of = { tag_bytes };
 /// ```
-/// [`are_bytes`], [`tag_bytes`], [`tag_of`]
+/// [Notation](crate::definitions): [`are_bytes`], [`tag_bytes`], [`tag_of`]
 /// </details>
 impl Scalar for Tag {
     type Raw = [u8; 4];

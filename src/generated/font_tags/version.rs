@@ -72,7 +72,7 @@ impl Version16Dot16 {
     /// ```text
     /// ensures { version_bits result ≡ packed_version major minor }
     /// ```
-    /// [`version_bits`], [`packed_version`]
+    /// [Notation](crate::definitions): [`version_bits`], [`packed_version`]
     /// </details>
     #[must_use]
     #[inline]
@@ -90,7 +90,7 @@ impl Version16Dot16 {
     /// ensures major { result.0 ≡ version_major self }
     /// ensures minor { result.1 ≡ version_minor self }
     /// ```
-    /// [`version_major`], [`version_minor`]
+    /// [Notation](crate::definitions): [`version_major`], [`version_minor`]
     /// </details>
     #[must_use]
     #[inline]
@@ -105,7 +105,7 @@ impl Version16Dot16 {
     /// ```text
     /// ensures { result ≡ bytes_of 4 (pos (version_bits self)) }
     /// ```
-    /// [`bytes_of`], [`version_bits`]
+    /// [Notation](crate::definitions): [`bytes_of`], [`version_bits`]
     /// </details>
     #[must_use]
     #[inline]
@@ -120,7 +120,7 @@ impl Version16Dot16 {
 /// ghost output = { λ version.
 ///     Some (version_text (version_major version) (version_minor version)) };
 /// ```
-/// [`version_text`], [`version_major`], [`version_minor`]
+/// [Notation](crate::definitions): [`version_text`], [`version_major`], [`version_minor`]
 /// </details>
 impl fmt::Display for Version16Dot16 {
     fn fmt(&self, f: &mut fmt::Formatter<'_>) -> fmt::Result {
@@ -135,7 +135,7 @@ impl fmt::Display for Version16Dot16 {
 /// ghost debug_output = { λ version.
 ///     Some (codes "Version16Dot16(" ++ hex_text (version_bits version) ++ codes ")") };
 /// ```
-/// [`hex_text`], [`version_bits`]
+/// [Notation](crate::definitions): [`hex_text`], [`version_bits`]
 /// </details>
 impl fmt::Debug for Version16Dot16 {
     fn fmt(&self, f: &mut fmt::Formatter<'_>) -> fmt::Result {
@@ -154,7 +154,7 @@ impl FixedSize for Version16Dot16 {
 /// ghost of_raw = { λ raw. version_of (numeral raw) };
 /// ghost raw_of = { λ version. bytes_of 4 (pos (version_bits version)) };
 /// ```
-/// [`version_bits`], [`version_of`], [`numeral`], [`bytes_of`]
+/// [Notation](crate::definitions): [`version_bits`], [`version_of`], [`numeral`], [`bytes_of`]
 /// </details>
 impl Scalar for Version16Dot16 {
     type Raw = [u8; 4];
@@ -213,6 +213,7 @@ impl MajorMinor {
     /// ensures major { result.major ≡ major }
     /// ensures minor { result.minor ≡ minor }
     /// ```
+    /// [Notation](crate::definitions)
     /// </details>
     #[must_use]
     #[inline]
@@ -227,7 +228,7 @@ impl MajorMinor {
     /// ```text
     /// ensures { result ≡ bytes_of 2 (pos self.major) ++ bytes_of 2 (pos self.minor) }
     /// ```
-    /// [`bytes_of`]
+    /// [Notation](crate::definitions): [`bytes_of`]
     /// </details>
     #[must_use]
     #[inline]
@@ -243,7 +244,7 @@ impl MajorMinor {
 /// ```text
 /// ghost output = { λ version. Some (version_text version.major version.minor) };
 /// ```
-/// [`version_text`]
+/// [Notation](crate::definitions): [`version_text`]
 /// </details>
 impl fmt::Display for MajorMinor {
     fn fmt(&self, f: &mut fmt::Formatter<'_>) -> fmt::Result {
@@ -263,7 +264,7 @@ impl FixedSize for MajorMinor {
 /// ghost of_raw = { major_minor_of };
 /// ghost raw_of = { major_minor_bytes };
 /// ```
-/// [`major_minor_of`], [`major_minor_bytes`]
+/// [Notation](crate::definitions): [`major_minor_of`], [`major_minor_bytes`]
 /// </details>
 impl Scalar for MajorMinor {
     type Raw = [u8; 4];
@@ -308,6 +309,7 @@ impl IdentityEq for MajorMinor {}
 /// // every field that a reader of the other version needs is present
 /// ghost is_compatible: { Self → Rhs → Type 0 };
 /// ```
+/// [Notation](crate::definitions)
 /// </details>
 pub trait Compatible<Rhs = Self>: Sized {
     /// Returns `true` if the major numbers are equal and this minor number is at least the other's.
@@ -317,6 +319,7 @@ pub trait Compatible<Rhs = Self>: Sized {
     /// ```text
     /// ensures { IsTrue result ↔ is_compatible self.now other }
     /// ```
+    /// [Notation](crate::definitions)
     /// </details>
     #[must_use]
     fn compatible(&self, other: Rhs) -> bool;
@@ -328,7 +331,7 @@ pub trait Compatible<Rhs = Self>: Sized {
 /// ghost is_compatible = { λ version other. IsCompatible (version_major version)
 ///     (version_minor version) (version_major other) (version_minor other) };
 /// ```
-/// [`IsCompatible`], [`version_major`], [`version_minor`]
+/// [Notation](crate::definitions): [`IsCompatible`], [`version_major`], [`version_minor`]
 /// </details>
 impl Compatible<Version16Dot16> for Version16Dot16 {
     #[inline]
@@ -347,7 +350,7 @@ impl Compatible<Version16Dot16> for Version16Dot16 {
 /// ghost is_compatible = { λ version other.
 ///     IsCompatible (version_major version) (version_minor version) other.0 (min other.1 9) };
 /// ```
-/// [`IsCompatible`], [`version_major`], [`version_minor`]
+/// [Notation](crate::definitions): [`IsCompatible`], [`version_major`], [`version_minor`]
 /// </details>
 impl Compatible<(u16, u16)> for Version16Dot16 {
     #[inline]
@@ -362,7 +365,7 @@ impl Compatible<(u16, u16)> for Version16Dot16 {
 /// ghost is_compatible = { λ version other.
 ///     IsCompatible version.major version.minor other.major other.minor };
 /// ```
-/// [`IsCompatible`]
+/// [Notation](crate::definitions): [`IsCompatible`]
 /// </details>
 impl Compatible<MajorMinor> for MajorMinor {
     #[inline]
@@ -377,7 +380,7 @@ impl Compatible<MajorMinor> for MajorMinor {
 /// ghost is_compatible = { λ version other.
 ///     IsCompatible version.major version.minor other.0 other.1 };
 /// ```
-/// [`IsCompatible`]
+/// [Notation](crate::definitions): [`IsCompatible`]
 /// </details>
 impl Compatible<(u16, u16)> for MajorMinor {
     #[inline]
@@ -393,6 +396,7 @@ impl Compatible<(u16, u16)> for MajorMinor {
 /// ```text
 /// ghost is_compatible = { λ version other. other ≤ version };
 /// ```
+/// [Notation](crate::definitions)
 /// </details>
 impl Compatible<u16> for u16 {
     #[inline]

@@ -50,7 +50,7 @@ impl DeltaSum {
     /// ```text
     /// ensures { steps_of result ≡ pos 0 }
     /// ```
-    /// [`steps_of`]
+    /// [Notation](crate::definitions): [`steps_of`]
     /// </details>
     #[must_use]
     #[inline]
@@ -71,7 +71,7 @@ impl DeltaSum {
     ///     → (steps_of self.new ≡ (steps_of self.old +ℤ fixed_bits scalar *ℤ delta))
     ///     × (unsigned_abs (steps_of self.new) ≤ unsigned_abs (steps_of self.old) + 2 ^ 62) }
     /// ```
-    /// [`steps_of`], [`wrap`], [`fixed_bits`], [`FitsBits`]
+    /// [Notation](crate::definitions): [`steps_of`], [`wrap`], [`fixed_bits`], [`FitsBits`]
     /// </details>
     #[inline]
     pub fn add(&mut self, scalar: Fixed, delta: i32) {
@@ -93,7 +93,7 @@ impl DeltaSum {
     /// ```text
     /// ensures { f48dot16_bits result ≡ wrap 64 (steps_of self) }
     /// ```
-    /// [`f48dot16_bits`], [`wrap`], [`steps_of`]
+    /// [Notation](crate::definitions): [`f48dot16_bits`], [`wrap`], [`steps_of`]
     /// </details>
     #[must_use]
     #[inline]
@@ -109,7 +109,7 @@ impl DeltaSum {
     /// ensures variant { IsSome result ↔ FitsBits 64 (steps_of self) }
     /// ensures value { IfSome result (λ sum. f48dot16_bits sum ≡ steps_of self) }
     /// ```
-    /// [`FitsBits`], [`steps_of`], [`f48dot16_bits`]
+    /// [Notation](crate::definitions): [`FitsBits`], [`steps_of`], [`f48dot16_bits`]
     /// </details>
     #[must_use]
     #[inline]
@@ -126,7 +126,7 @@ impl DeltaSum {
 /// ```text
 /// ghost add_assign_gives = { λ x y sum. WrapsTo 128 (steps_of x +ℤ steps_of y) (steps_of sum) };
 /// ```
-/// [`WrapsTo`], [`steps_of`]
+/// [Notation](crate::definitions): [`WrapsTo`], [`steps_of`]
 /// </details>
 impl AddAssign for DeltaSum {
     #[inline]
@@ -140,7 +140,7 @@ impl AddAssign for DeltaSum {
 /// ```text
 /// ghost is_default = { λ sum. steps_of sum ≡ pos 0 };
 /// ```
-/// [`steps_of`]
+/// [Notation](crate::definitions): [`steps_of`]
 /// </details>
 impl Default for DeltaSum {
     #[inline]
@@ -174,7 +174,7 @@ pub(crate) fn sum_of(terms: &[(Fixed, i32)]) -> DeltaSum {
 /// ```text
 /// ensures { f48dot16_bits result ≡ wrap 64 (exact_sum terms.now) }
 /// ```
-/// [`f48dot16_bits`], [`wrap`], [`exact_sum`]
+/// [Notation](crate::definitions): [`f48dot16_bits`], [`wrap`], [`exact_sum`]
 /// </details>
 #[must_use]
 #[inline]
@@ -199,7 +199,7 @@ pub fn delta_sum(terms: &[(Fixed, i32)]) -> F48Dot16 {
 /// ensures variant { IsSome result ↔ FitsBits 64 (exact_sum terms.now) }
 /// ensures value { IfSome result (λ sum. f48dot16_bits sum ≡ exact_sum terms.now) }
 /// ```
-/// [`FitsBits`], [`exact_sum`], [`f48dot16_bits`]
+/// [Notation](crate::definitions): [`FitsBits`], [`exact_sum`], [`f48dot16_bits`]
 /// </details>
 #[must_use]
 #[inline]
@@ -229,7 +229,7 @@ pub fn checked_delta_sum(terms: &[(Fixed, i32)]) -> Option<F48Dot16> {
 /// ensures value { IfSome result (λ units.
 ///     units ≡ (fword_number base *ℤ pos 65536 +ℤ exact_sum terms.now)) }
 /// ```
-/// [`FitsBits`], [`exact_sum`], [`fword_number`]
+/// [Notation](crate::definitions): [`FitsBits`], [`exact_sum`], [`fword_number`]
 /// </details>
 #[must_use]
 #[inline]

@@ -42,7 +42,7 @@ use crate::font_types::{DeltaSum, delta_sum};
 /// ensures wrapped { f48dot16_bits result.0 ≡ wrap 64 (exact_sum (first.now ++ second.now)) }
 /// ensures accumulated { steps_of result.1 ≡ wrap 128 (exact_sum (first.now ++ second.now)) }
 /// ```
-/// [`f48dot16_bits`], [`wrap`], [`exact_sum`], [`steps_of`]
+/// [Notation](crate::definitions): [`f48dot16_bits`], [`wrap`], [`exact_sum`], [`steps_of`]
 /// </details>
 #[must_use]
 #[inline]
@@ -71,7 +71,7 @@ pub fn sum_in_parts(first: &[(Fixed, i32)], second: &[(Fixed, i32)]) -> (F48Dot1
 ///     → 2 * unsigned_abs (fixed_bits result.0 -ℤ fixed_bits result.1)
 ///     ≤ length numbers.now + 1 }
 /// ```
-/// [`fixed_bits`], [`wrap`], [`total`], [`scaled`], [`IsMulDiv`], [`FitsBits`], [`rounded_mul_div`]
+/// [Notation](crate::definitions): [`fixed_bits`], [`wrap`], [`total`], [`scaled`], [`IsMulDiv`], [`FitsBits`], [`rounded_mul_div`]
 /// </details>
 #[must_use]
 #[inline]

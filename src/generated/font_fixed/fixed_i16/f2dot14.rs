@@ -61,7 +61,7 @@ impl F2Dot14 {
     /// ```text
     /// ensures { fixed_bits result ≡ (bits_of self *ℤ pos 4) }
     /// ```
-    /// [`fixed_bits`], [`bits_of`]
+    /// [Notation](crate::definitions): [`fixed_bits`], [`bits_of`]
     /// </details>
     #[must_use]
     #[inline(always)]
@@ -78,7 +78,7 @@ impl F2Dot14 {
     /// ```text
     /// ensures { result ≡ (bits_of self *ℤ pos 65536 +ℤ f48dot16_bits delta) }
     /// ```
-    /// [`bits_of`], [`f48dot16_bits`]
+    /// [Notation](crate::definitions): [`bits_of`], [`f48dot16_bits`]
     /// </details>
     #[must_use]
     #[inline]
@@ -101,7 +101,7 @@ impl F2Dot14 {
     /// ensures variant { IsSome result ↔ FitsBits 16 (up moved 65536) }
     /// ensures value { IfSome result (λ number. bits_of number ≡ up moved 65536) }
     /// ```
-    /// [`FitsBits`], [`up`], [`bits_of`]
+    /// [Notation](crate::definitions): [`FitsBits`], [`up`], [`bits_of`]
     /// </details>
     #[must_use]
     #[inline]
@@ -128,7 +128,7 @@ impl F2Dot14 {
     /// ensures value { IfSome result (λ number. bits_of number
     ///     ≡ up (bits_of self *ℤ pos 65536 +ℤ f48dot16_bits delta) 65536) }
     /// ```
-    /// [`FitsBits`], [`up`], [`bits_of`], [`f48dot16_bits`]
+    /// [Notation](crate::definitions): [`FitsBits`], [`up`], [`bits_of`], [`f48dot16_bits`]
     /// </details>
     #[must_use]
     #[inline]

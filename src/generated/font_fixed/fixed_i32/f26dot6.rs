@@ -75,7 +75,7 @@ impl F26Dot6 {
     /// ensures value { IfSome result
     ///     (λ product. bits_of product ≡ near (bits_of self *ℤ bits_of other) (2 ^ 6)) }
     /// ```
-    /// [`FitsBits`], [`near`], [`bits_of`]
+    /// [Notation](crate::definitions): [`FitsBits`], [`near`], [`bits_of`]
     /// </details>
     #[must_use]
     #[inline]
@@ -97,7 +97,7 @@ impl F26Dot6 {
     /// ensures value { IfSome result (λ quotient. bits_of quotient
     ///     ≡ rounded_mul_div (bits_of self) (pos (2 ^ 6)) (bits_of other)) }
     /// ```
-    /// [`bits_of`], [`FitsBits`], [`rounded_mul_div`]
+    /// [Notation](crate::definitions): [`bits_of`], [`FitsBits`], [`rounded_mul_div`]
     /// </details>
     #[must_use]
     #[inline]
@@ -119,7 +119,7 @@ impl F26Dot6 {
     /// ensures wrapped { bits_of result ≡ wrap 32 (number *ℤ pos (2 ^ 6)) }
     /// ensures exact { FitsBits 26 number → bits_of result ≡ (number *ℤ pos (2 ^ 6)) }
     /// ```
-    /// [`bits_of`], [`wrap`], [`FitsBits`]
+    /// [Notation](crate::definitions): [`bits_of`], [`wrap`], [`FitsBits`]
     /// </details>
     #[must_use]
     #[inline(always)]
@@ -135,7 +135,7 @@ impl F26Dot6 {
     /// ensures variant { IsSome result ↔ FitsBits 32 (number *ℤ pos (2 ^ 6)) }
     /// ensures value { IfSome result (λ long. bits_of long ≡ (number *ℤ pos (2 ^ 6))) }
     /// ```
-    /// [`FitsBits`], [`bits_of`]
+    /// [Notation](crate::definitions): [`FitsBits`], [`bits_of`]
     /// </details>
     #[must_use]
     #[inline]
@@ -154,7 +154,7 @@ impl F26Dot6 {
     /// ```text
     /// ensures { IsNarrowed 26 (bits_of self) (2 ^ 6) result }
     /// ```
-    /// [`IsNarrowed`], [`bits_of`]
+    /// [Notation](crate::definitions): [`IsNarrowed`], [`bits_of`]
     /// </details>
     #[must_use]
     #[inline(always)]
@@ -170,7 +170,7 @@ impl F26Dot6 {
     /// ensures variant { IsSome result ↔ FitsBits 26 (up (bits_of self) (2 ^ 6)) }
     /// ensures value { IfSome result (λ number. number ≡ up (bits_of self) (2 ^ 6)) }
     /// ```
-    /// [`FitsBits`], [`up`], [`bits_of`]
+    /// [Notation](crate::definitions): [`FitsBits`], [`up`], [`bits_of`]
     /// </details>
     #[must_use]
     #[inline]
@@ -187,7 +187,7 @@ impl F26Dot6 {
 /// ghost mul_gives = { λ x y product.
 ///     IsProduct 32 6 (bits_of x) (bits_of y) (bits_of product) };
 /// ```
-/// [`IsProduct`], [`bits_of`]
+/// [Notation](crate::definitions): [`IsProduct`], [`bits_of`]
 /// </details>
 impl Mul for F26Dot6 {
     type Output = F26Dot6;
@@ -206,7 +206,7 @@ impl Mul for F26Dot6 {
 /// ghost mul_assign_gives = { λ x y product.
 ///     IsProduct 32 6 (bits_of x) (bits_of y) (bits_of product) };
 /// ```
-/// [`IsProduct`], [`bits_of`]
+/// [Notation](crate::definitions): [`IsProduct`], [`bits_of`]
 /// </details>
 impl MulAssign for F26Dot6 {
     #[inline(always)]
@@ -225,7 +225,7 @@ impl MulAssign for F26Dot6 {
 /// ghost div_gives = { λ x y quotient.
 ///     IsQuotient 32 6 (bits_of x) (bits_of y) (bits_of quotient) };
 /// ```
-/// [`IsQuotient`], [`bits_of`]
+/// [Notation](crate::definitions): [`IsQuotient`], [`bits_of`]
 /// </details>
 impl Div for F26Dot6 {
     type Output = F26Dot6;
@@ -244,7 +244,7 @@ impl Div for F26Dot6 {
 /// ghost div_assign_gives = { λ x y quotient.
 ///     IsQuotient 32 6 (bits_of x) (bits_of y) (bits_of quotient) };
 /// ```
-/// [`IsQuotient`], [`bits_of`]
+/// [Notation](crate::definitions): [`IsQuotient`], [`bits_of`]
 /// </details>
 impl DivAssign for F26Dot6 {
     #[inline(always)]

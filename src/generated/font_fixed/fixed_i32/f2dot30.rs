@@ -74,7 +74,7 @@ impl F2Dot30 {
     /// ```text
     /// ensures { bits_of result ≡ wrap 32 (fixed_bits number *ℤ pos (2 ^ 14)) }
     /// ```
-    /// [`bits_of`], [`wrap`], [`fixed_bits`]
+    /// [Notation](crate::definitions): [`bits_of`], [`wrap`], [`fixed_bits`]
     /// </details>
     #[must_use]
     #[inline]
@@ -91,7 +91,7 @@ impl F2Dot30 {
     /// ensures value { IfSome result
     ///     (λ long. bits_of long ≡ (fixed_bits number *ℤ pos (2 ^ 14))) }
     /// ```
-    /// [`FitsBits`], [`fixed_bits`], [`bits_of`]
+    /// [Notation](crate::definitions): [`FitsBits`], [`fixed_bits`], [`bits_of`]
     /// </details>
     #[must_use]
     #[inline]
@@ -109,7 +109,7 @@ impl F2Dot30 {
     /// ```text
     /// ensures { bits_of result ≡ (f2dot14_bits number *ℤ pos (2 ^ 16)) }
     /// ```
-    /// [`bits_of`], [`f2dot14_bits`]
+    /// [Notation](crate::definitions): [`bits_of`], [`f2dot14_bits`]
     /// </details>
     #[must_use]
     #[inline]
@@ -124,7 +124,7 @@ impl F2Dot30 {
     /// ```text
     /// ensures { fixed_bits result ≡ up (bits_of self) (2 ^ 14) }
     /// ```
-    /// [`fixed_bits`], [`up`], [`bits_of`]
+    /// [Notation](crate::definitions): [`fixed_bits`], [`up`], [`bits_of`]
     /// </details>
     #[must_use]
     #[inline(always)]
@@ -139,7 +139,7 @@ impl F2Dot30 {
     /// ```text
     /// ensures { IsNarrowed 16 (bits_of self) (2 ^ 16) (f2dot14_bits result) }
     /// ```
-    /// [`IsNarrowed`], [`bits_of`], [`f2dot14_bits`]
+    /// [Notation](crate::definitions): [`IsNarrowed`], [`bits_of`], [`f2dot14_bits`]
     /// </details>
     #[must_use]
     #[inline(always)]
@@ -155,7 +155,7 @@ impl F2Dot30 {
     /// ensures variant { IsSome result ↔ FitsBits 16 (up (bits_of self) (2 ^ 16)) }
     /// ensures value { IfSome result (λ narrow. f2dot14_bits narrow ≡ up (bits_of self) (2 ^ 16)) }
     /// ```
-    /// [`FitsBits`], [`up`], [`bits_of`], [`f2dot14_bits`]
+    /// [Notation](crate::definitions): [`FitsBits`], [`up`], [`bits_of`], [`f2dot14_bits`]
     /// </details>
     #[must_use]
     #[inline]
@@ -174,7 +174,7 @@ impl F2Dot30 {
 /// ```text
 /// ghost from_gives = { λ number long. bits_of long ≡ (f2dot14_bits number *ℤ pos (2 ^ 16)) };
 /// ```
-/// [`bits_of`], [`f2dot14_bits`]
+/// [Notation](crate::definitions): [`bits_of`], [`f2dot14_bits`]
 /// </details>
 impl From<F2Dot14> for F2Dot30 {
     #[inline]
@@ -194,7 +194,7 @@ impl FixedSize for F2Dot30 {
 /// ghost of_raw = { λ bytes. of_bits (signed_numeral 4 bytes) };
 /// ghost raw_of = { λ x. bytes_of 4 (bits_of x) };
 /// ```
-/// [`fits_bits`], [`bits_of`], [`of_bits`], [`signed_numeral`], [`bytes_of`]
+/// [Notation](crate::definitions): [`fits_bits`], [`bits_of`], [`of_bits`], [`signed_numeral`], [`bytes_of`]
 /// </details>
 impl Scalar for F2Dot30 {
     type Raw = [u8; 4];

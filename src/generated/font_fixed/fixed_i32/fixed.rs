@@ -95,7 +95,7 @@ impl Fixed {
     /// ensures { IsMulDiv 32 (bits_of self.now) (bits_of a) (bits_of c)
     ///     (bits_of result) }
     /// ```
-    /// [`IsMulDiv`], [`bits_of`]
+    /// [Notation](crate::definitions): [`IsMulDiv`], [`bits_of`]
     /// </details>
     #[must_use]
     #[inline(always)]
@@ -113,7 +113,7 @@ impl Fixed {
     /// ensures value { IfSome result
     ///     (λ product. bits_of product ≡ near (bits_of self *ℤ bits_of other) (2 ^ 16)) }
     /// ```
-    /// [`FitsBits`], [`near`], [`bits_of`]
+    /// [Notation](crate::definitions): [`FitsBits`], [`near`], [`bits_of`]
     /// </details>
     #[must_use]
     #[inline]
@@ -135,7 +135,7 @@ impl Fixed {
     /// ensures value { IfSome result (λ quotient. bits_of quotient
     ///     ≡ rounded_mul_div (bits_of self) (pos (2 ^ 16)) (bits_of other)) }
     /// ```
-    /// [`bits_of`], [`FitsBits`], [`rounded_mul_div`]
+    /// [Notation](crate::definitions): [`bits_of`], [`FitsBits`], [`rounded_mul_div`]
     /// </details>
     #[must_use]
     #[inline]
@@ -154,7 +154,7 @@ impl Fixed {
     /// ensures value { IfSome result (λ quotient. bits_of quotient
     ///     ≡ rounded_mul_div (bits_of self) (bits_of a) (bits_of c)) }
     /// ```
-    /// [`bits_of`], [`FitsBits`], [`rounded_mul_div`]
+    /// [Notation](crate::definitions): [`bits_of`], [`FitsBits`], [`rounded_mul_div`]
     /// </details>
     #[must_use]
     #[inline]
@@ -176,7 +176,7 @@ impl Fixed {
     /// ensures wrapped { bits_of result ≡ wrap 32 (number *ℤ pos (2 ^ 16)) }
     /// ensures exact { FitsBits 16 number → bits_of result ≡ (number *ℤ pos (2 ^ 16)) }
     /// ```
-    /// [`bits_of`], [`wrap`], [`FitsBits`]
+    /// [Notation](crate::definitions): [`bits_of`], [`wrap`], [`FitsBits`]
     /// </details>
     #[must_use]
     #[inline(always)]
@@ -192,7 +192,7 @@ impl Fixed {
     /// ensures variant { IsSome result ↔ FitsBits 32 (number *ℤ pos (2 ^ 16)) }
     /// ensures value { IfSome result (λ fixed. bits_of fixed ≡ (number *ℤ pos (2 ^ 16))) }
     /// ```
-    /// [`FitsBits`], [`bits_of`]
+    /// [Notation](crate::definitions): [`FitsBits`], [`bits_of`]
     /// </details>
     #[must_use]
     #[inline]
@@ -210,7 +210,7 @@ impl Fixed {
     /// ```text
     /// ensures { IsNarrowed 16 (bits_of self) (2 ^ 16) result }
     /// ```
-    /// [`IsNarrowed`], [`bits_of`]
+    /// [Notation](crate::definitions): [`IsNarrowed`], [`bits_of`]
     /// </details>
     #[must_use]
     #[inline(always)]
@@ -226,7 +226,7 @@ impl Fixed {
     /// ensures variant { IsSome result ↔ FitsBits 16 (up (bits_of self) (2 ^ 16)) }
     /// ensures value { IfSome result (λ number. number ≡ up (bits_of self) (2 ^ 16)) }
     /// ```
-    /// [`FitsBits`], [`up`], [`bits_of`]
+    /// [Notation](crate::definitions): [`FitsBits`], [`up`], [`bits_of`]
     /// </details>
     #[must_use]
     #[inline]
@@ -242,7 +242,7 @@ impl Fixed {
     /// ```text
     /// ensures { IsNarrowed 22 (bits_of self) (2 ^ 10) (f26dot6_bits result) }
     /// ```
-    /// [`IsNarrowed`], [`bits_of`], [`f26dot6_bits`]
+    /// [Notation](crate::definitions): [`IsNarrowed`], [`bits_of`], [`f26dot6_bits`]
     /// </details>
     #[must_use]
     #[inline(always)]
@@ -258,7 +258,7 @@ impl Fixed {
     /// ensures variant { IsSome result ↔ FitsBits 22 (up (bits_of self) (2 ^ 10)) }
     /// ensures value { IfSome result (λ long. f26dot6_bits long ≡ up (bits_of self) (2 ^ 10)) }
     /// ```
-    /// [`FitsBits`], [`up`], [`bits_of`], [`f26dot6_bits`]
+    /// [Notation](crate::definitions): [`FitsBits`], [`up`], [`bits_of`], [`f26dot6_bits`]
     /// </details>
     #[must_use]
     #[inline]
@@ -276,7 +276,7 @@ impl Fixed {
     /// ```text
     /// ensures { IsNarrowed 16 (bits_of self) 4 (f2dot14_bits result) }
     /// ```
-    /// [`IsNarrowed`], [`bits_of`], [`f2dot14_bits`]
+    /// [Notation](crate::definitions): [`IsNarrowed`], [`bits_of`], [`f2dot14_bits`]
     /// </details>
     #[must_use]
     #[inline(always)]
@@ -292,7 +292,7 @@ impl Fixed {
     /// ensures variant { IsSome result ↔ FitsBits 16 (up (bits_of self) 4) }
     /// ensures value { IfSome result (λ narrow. f2dot14_bits narrow ≡ up (bits_of self) 4) }
     /// ```
-    /// [`FitsBits`], [`up`], [`bits_of`], [`f2dot14_bits`]
+    /// [Notation](crate::definitions): [`FitsBits`], [`up`], [`bits_of`], [`f2dot14_bits`]
     /// </details>
     #[must_use]
     #[inline]
@@ -310,7 +310,7 @@ impl Fixed {
     /// ```text
     /// ensures { f48dot16_bits result ≡ bits_of self }
     /// ```
-    /// [`f48dot16_bits`], [`bits_of`]
+    /// [Notation](crate::definitions): [`f48dot16_bits`], [`bits_of`]
     /// </details>
     #[must_use]
     #[inline(always)]
@@ -325,7 +325,7 @@ impl Fixed {
     /// ```text
     /// ensures { f48dot16_bits result ≡ (bits_of self *ℤ number) }
     /// ```
-    /// [`f48dot16_bits`], [`bits_of`]
+    /// [Notation](crate::definitions): [`f48dot16_bits`], [`bits_of`]
     /// </details>
     #[must_use]
     #[inline(always)]
@@ -342,7 +342,7 @@ impl Fixed {
     /// ```text
     /// ensures { result ≡ (bits_of self *ℤ pos 65536 +ℤ f48dot16_bits delta) }
     /// ```
-    /// [`bits_of`], [`f48dot16_bits`]
+    /// [Notation](crate::definitions): [`bits_of`], [`f48dot16_bits`]
     /// </details>
     #[must_use]
     #[inline]
@@ -365,7 +365,7 @@ impl Fixed {
     /// ensures variant { IsSome result ↔ FitsBits 32 (up moved 65536) }
     /// ensures value { IfSome result (λ number. bits_of number ≡ up moved 65536) }
     /// ```
-    /// [`FitsBits`], [`up`], [`bits_of`]
+    /// [Notation](crate::definitions): [`FitsBits`], [`up`], [`bits_of`]
     /// </details>
     #[must_use]
     #[inline]
@@ -392,7 +392,7 @@ impl Fixed {
     /// ensures value { IfSome result (λ number. bits_of number
     ///     ≡ up (bits_of self *ℤ pos 65536 +ℤ f48dot16_bits delta) 65536) }
     /// ```
-    /// [`FitsBits`], [`up`], [`bits_of`], [`f48dot16_bits`]
+    /// [Notation](crate::definitions): [`FitsBits`], [`up`], [`bits_of`], [`f48dot16_bits`]
     /// </details>
     #[must_use]
     #[inline]
@@ -417,7 +417,7 @@ impl Fixed {
 /// ```text
 /// ensures { result ≡ up moved 65536 }
 /// ```
-/// [`up`]
+/// [Notation](crate::definitions): [`up`]
 /// </details>
 #[must_use]
 #[inline]
@@ -432,7 +432,7 @@ pub fn nearest_step(moved: i128) -> i128 {
 /// ```text
 /// ensures { result ≡ up (number *ℤ pos 65536 +ℤ f48dot16_bits delta) 65536 }
 /// ```
-/// [`up`], [`f48dot16_bits`]
+/// [Notation](crate::definitions): [`up`], [`f48dot16_bits`]
 /// </details>
 #[must_use]
 #[inline(always)]
@@ -460,7 +460,7 @@ const fn low_half(n: i32) -> i16 {
 /// ghost mul_gives = { λ x y product.
 ///     IsProduct 32 16 (bits_of x) (bits_of y) (bits_of product) };
 /// ```
-/// [`IsProduct`], [`bits_of`]
+/// [Notation](crate::definitions): [`IsProduct`], [`bits_of`]
 /// </details>
 impl Mul for Fixed {
     type Output = Fixed;
@@ -479,7 +479,7 @@ impl Mul for Fixed {
 /// ghost mul_assign_gives = { λ x y product.
 ///     IsProduct 32 16 (bits_of x) (bits_of y) (bits_of product) };
 /// ```
-/// [`IsProduct`], [`bits_of`]
+/// [Notation](crate::definitions): [`IsProduct`], [`bits_of`]
 /// </details>
 impl MulAssign for Fixed {
     #[inline(always)]
@@ -498,7 +498,7 @@ impl MulAssign for Fixed {
 /// ghost div_gives = { λ x y quotient.
 ///     IsQuotient 32 16 (bits_of x) (bits_of y) (bits_of quotient) };
 /// ```
-/// [`IsQuotient`], [`bits_of`]
+/// [Notation](crate::definitions): [`IsQuotient`], [`bits_of`]
 /// </details>
 impl Div for Fixed {
     type Output = Fixed;
@@ -517,7 +517,7 @@ impl Div for Fixed {
 /// ghost div_assign_gives = { λ x y quotient.
 ///     IsQuotient 32 16 (bits_of x) (bits_of y) (bits_of quotient) };
 /// ```
-/// [`IsQuotient`], [`bits_of`]
+/// [Notation](crate::definitions): [`IsQuotient`], [`bits_of`]
 /// </details>
 impl DivAssign for Fixed {
     #[inline(always)]
@@ -533,7 +533,7 @@ impl DivAssign for Fixed {
 /// ```text
 /// ghost from_gives = { λ number fixed. bits_of fixed ≡ wrap 32 (number *ℤ pos (2 ^ 16)) };
 /// ```
-/// [`bits_of`], [`wrap`]
+/// [Notation](crate::definitions): [`bits_of`], [`wrap`]
 /// </details>
 impl From<i32> for Fixed {
     #[inline]
@@ -549,7 +549,7 @@ impl From<i32> for Fixed {
 /// ```text
 /// ghost from_gives = { λ number fixed. bits_of fixed ≡ (f2dot14_bits number *ℤ pos 4) };
 /// ```
-/// [`bits_of`], [`f2dot14_bits`]
+/// [Notation](crate::definitions): [`bits_of`], [`f2dot14_bits`]
 /// </details>
 impl From<F2Dot14> for Fixed {
     #[inline]
@@ -569,7 +569,7 @@ impl FixedSize for Fixed {
 /// ghost of_raw = { λ bytes. of_bits (signed_numeral 4 bytes) };
 /// ghost raw_of = { λ x. bytes_of 4 (bits_of x) };
 /// ```
-/// [`fits_bits`], [`bits_of`], [`of_bits`], [`signed_numeral`], [`bytes_of`]
+/// [Notation](crate::definitions): [`fits_bits`], [`bits_of`], [`of_bits`], [`signed_numeral`], [`bytes_of`]
 /// </details>
 impl Scalar for Fixed {
     type Raw = [u8; 4];

@@ -63,7 +63,7 @@ impl F48Dot16 {
     /// ```text
     /// ensures { bits_of result ≡ wrap 64 (number *ℤ pos (2 ^ 16)) }
     /// ```
-    /// [`bits_of`], [`wrap`]
+    /// [Notation](crate::definitions): [`bits_of`], [`wrap`]
     /// </details>
     #[must_use]
     #[inline(always)]
@@ -79,7 +79,7 @@ impl F48Dot16 {
     /// ensures variant { IsSome result ↔ FitsBits 64 (number *ℤ pos (2 ^ 16)) }
     /// ensures value { IfSome result (λ wide. bits_of wide ≡ (number *ℤ pos (2 ^ 16))) }
     /// ```
-    /// [`FitsBits`], [`bits_of`]
+    /// [Notation](crate::definitions): [`FitsBits`], [`bits_of`]
     /// </details>
     #[must_use]
     #[inline]
@@ -97,7 +97,7 @@ impl F48Dot16 {
     /// ```text
     /// ensures { bits_of result ≡ (number *ℤ pos (2 ^ 16)) }
     /// ```
-    /// [`bits_of`]
+    /// [Notation](crate::definitions): [`bits_of`]
     /// </details>
     #[must_use]
     #[inline(always)]
@@ -113,7 +113,7 @@ impl F48Dot16 {
     /// ```text
     /// ensures { IsNarrowed 48 (bits_of self) (2 ^ 16) result }
     /// ```
-    /// [`IsNarrowed`], [`bits_of`]
+    /// [Notation](crate::definitions): [`IsNarrowed`], [`bits_of`]
     /// </details>
     #[must_use]
     #[inline(always)]
@@ -129,7 +129,7 @@ impl F48Dot16 {
     /// ensures variant { IsSome result ↔ FitsBits 48 (up (bits_of self) (2 ^ 16)) }
     /// ensures value { IfSome result (λ number. number ≡ up (bits_of self) (2 ^ 16)) }
     /// ```
-    /// [`FitsBits`], [`up`], [`bits_of`]
+    /// [Notation](crate::definitions): [`FitsBits`], [`up`], [`bits_of`]
     /// </details>
     #[must_use]
     #[inline]
@@ -144,7 +144,7 @@ impl F48Dot16 {
     /// ```text
     /// ensures { IsNarrowed 32 (bits_of self) (2 ^ 16) result }
     /// ```
-    /// [`IsNarrowed`], [`bits_of`]
+    /// [Notation](crate::definitions): [`IsNarrowed`], [`bits_of`]
     /// </details>
     #[must_use]
     #[inline(always)]
@@ -160,7 +160,7 @@ impl F48Dot16 {
     /// ensures variant { IsSome result ↔ FitsBits 32 (up (bits_of self) (2 ^ 16)) }
     /// ensures value { IfSome result (λ number. number ≡ up (bits_of self) (2 ^ 16)) }
     /// ```
-    /// [`FitsBits`], [`up`], [`bits_of`]
+    /// [Notation](crate::definitions): [`FitsBits`], [`up`], [`bits_of`]
     /// </details>
     #[must_use]
     #[inline]
@@ -176,7 +176,7 @@ impl F48Dot16 {
     /// ensures variant { IsSome result ↔ FitsBits 32 (bits_of self) }
     /// ensures value { IfSome result (λ fixed. fixed_bits fixed ≡ bits_of self) }
     /// ```
-    /// [`FitsBits`], [`bits_of`], [`fixed_bits`]
+    /// [Notation](crate::definitions): [`FitsBits`], [`bits_of`], [`fixed_bits`]
     /// </details>
     #[must_use]
     #[inline]
@@ -194,7 +194,7 @@ impl F48Dot16 {
     /// ```text
     /// ensures { fixed_bits result ≡ wrap 32 (bits_of self) }
     /// ```
-    /// [`fixed_bits`], [`wrap`], [`bits_of`]
+    /// [Notation](crate::definitions): [`fixed_bits`], [`wrap`], [`bits_of`]
     /// </details>
     #[must_use]
     #[inline(always)]

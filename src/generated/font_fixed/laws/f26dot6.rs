@@ -22,7 +22,7 @@ use crate::font_fixed::F26Dot6;
 ///     ProductLaws 32 6 (f26dot6_bits x) (f26dot6_bits y)
 ///     (f26dot6_bits product) (f26dot6_bits flipped) (f26dot6_bits by_one)) }
 /// ```
-/// [`OnThree`], [`ProductLaws`], [`f26dot6_bits`]
+/// [Notation](crate::definitions): [`OnThree`], [`ProductLaws`], [`f26dot6_bits`]
 /// </details>
 #[must_use]
 #[inline]
@@ -40,7 +40,7 @@ pub fn product_laws(x: F26Dot6, y: F26Dot6) -> [F26Dot6; 3] {
 ///     QuotientLaws 32 6 (f26dot6_bits x) (f26dot6_bits y)
 ///     (f26dot6_bits quotient) (f26dot6_bits by_one) (f26dot6_bits by_itself)) }
 /// ```
-/// [`OnThree`], [`QuotientLaws`], [`f26dot6_bits`]
+/// [Notation](crate::definitions): [`OnThree`], [`QuotientLaws`], [`f26dot6_bits`]
 /// </details>
 #[must_use]
 #[inline]

@@ -42,7 +42,7 @@ use crate::font_fixed::{F48Dot16, Fixed};
 ///     ProductInOneStep 32 16 (fixed_bits x) (fixed_bits y)
 ///     (fixed_bits product) (fixed_bits in_one_step)) }
 /// ```
-/// [`OnFour`], [`ProductLaws`], [`fixed_bits`], [`ProductInOneStep`]
+/// [Notation](crate::definitions): [`OnFour`], [`ProductLaws`], [`fixed_bits`], [`ProductInOneStep`]
 /// </details>
 #[must_use]
 #[inline]
@@ -65,7 +65,7 @@ pub fn product_laws(x: Fixed, y: Fixed) -> [Fixed; 4] {
 ///     QuotientInOneStep 32 16 (fixed_bits x) (fixed_bits y)
 ///     (fixed_bits quotient) (fixed_bits in_one_step)) }
 /// ```
-/// [`OnFour`], [`QuotientLaws`], [`fixed_bits`], [`QuotientInOneStep`]
+/// [Notation](crate::definitions): [`OnFour`], [`QuotientLaws`], [`fixed_bits`], [`QuotientInOneStep`]
 /// </details>
 #[must_use]
 #[inline]
@@ -89,7 +89,7 @@ pub fn quotient_laws(x: Fixed, y: Fixed) -> [Fixed; 4] {
 ///     → FitsBits 32 (rounded_mul_div (fixed_bits y) (fixed_bits a) (fixed_bits c))
 ///     → fixed_bits result.0 ≤ℤ fixed_bits result.1 }
 /// ```
-/// [`IsMulDiv`], [`fixed_bits`], [`FitsBits`], [`rounded_mul_div`]
+/// [Notation](crate::definitions): [`IsMulDiv`], [`fixed_bits`], [`FitsBits`], [`rounded_mul_div`]
 /// </details>
 #[must_use]
 #[inline]
@@ -117,7 +117,7 @@ pub fn scaled_in_order(x: Fixed, y: Fixed, a: Fixed, c: Fixed) -> (Fixed, Fixed)
 ///     (rounded_mul_div (fixed_bits x -ℤ fixed_bits y) (fixed_bits a) (fixed_bits c))
 ///     → unsigned_abs ((fixed_bits result.0 -ℤ fixed_bits result.1) -ℤ fixed_bits result.2) ≤ 1 }
 /// ```
-/// [`IsMulDiv`], [`fixed_bits`], [`wrap`], [`FitsBits`], [`rounded_mul_div`]
+/// [Notation](crate::definitions): [`IsMulDiv`], [`fixed_bits`], [`wrap`], [`FitsBits`], [`rounded_mul_div`]
 /// </details>
 #[must_use]
 #[inline]
@@ -139,7 +139,7 @@ pub fn scaled_distance(x: Fixed, y: Fixed, a: Fixed, c: Fixed) -> (Fixed, Fixed,
 ///     → FitsBits 32 (rounded_mul_div (fixed_bits x) (fixed_bits a) (fixed_bits c))
 ///     → fixed_bits result.1 ≡ fixed_bits x }
 /// ```
-/// [`IsMulDiv`], [`fixed_bits`], [`FitsBits`], [`rounded_mul_div`]
+/// [Notation](crate::definitions): [`IsMulDiv`], [`fixed_bits`], [`FitsBits`], [`rounded_mul_div`]
 /// </details>
 #[must_use]
 #[inline]
@@ -160,7 +160,7 @@ pub fn scaled_back(x: Fixed, a: Fixed, c: Fixed) -> (Fixed, Fixed) {
 ///     ≡ up (fixed_bits x *ℤ pos 65536 +ℤ f48dot16_bits delta) 65536) }
 /// ensures equal { result.0 ≡ result.1 }
 /// ```
-/// [`FitsBits`], [`up`], [`fixed_bits`], [`f48dot16_bits`]
+/// [Notation](crate::definitions): [`FitsBits`], [`up`], [`fixed_bits`], [`f48dot16_bits`]
 /// </details>
 #[must_use]
 #[inline]
@@ -185,7 +185,7 @@ pub fn delta_in_steps(x: Fixed, delta: F48Dot16) -> (Option<Fixed>, Option<Fixed
 /// ensures in_order { fixed_bits x ≤ℤ fixed_bits y → f48dot16_bits first ≤ℤ f48dot16_bits second
 ///     → IfSome result.0 (λ a. IfSome result.1 (λ b. fixed_bits a ≤ℤ fixed_bits b)) }
 /// ```
-/// [`FitsBits`], [`up`], [`fixed_bits`], [`f48dot16_bits`]
+/// [Notation](crate::definitions): [`FitsBits`], [`up`], [`fixed_bits`], [`f48dot16_bits`]
 /// </details>
 #[must_use]
 #[inline]
