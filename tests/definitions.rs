@@ -214,6 +214,7 @@ fn deltas() {
     assert!(sum != DeltaSum::new() && checked_delta_sum(&many[..2]).is_none());
     let many = vec![(Fixed::ONE, 1); 65_537];
     assert_eq!(checked_delta_sum(&many), Some(F48Dot16::from_i32(65_537)));
+    assert_eq!(delta_sum(&many), F48Dot16::from_i32(65_537));
 }
 
 // ---- decimals
@@ -247,6 +248,8 @@ fn any_fraction_bits() {
         ("1.5", 6, -100, 95, out),
         ("-1.5", 6, -96, 100, Ok(-96)),
         ("-1.5", 6, -95, 100, out),
+        ("-140737488355328", 16, i64::MIN, i64::MAX, Ok(i64::MIN)),
+        ("-140737488355329", 16, i64::MIN, i64::MAX, out),
         // The last digit decides on which side of a tie it is, however late it comes.
         (&format!("-{zeros}1.{zeros}"), 16, i64::MIN, i64::MAX, Ok(-0x1_0000)),
         (&format!("0.000007629394531249{nines}"), 16, -9, 9, Ok(0)),

@@ -11,7 +11,9 @@ mod runner;
 
 use dump::dump;
 use font_types_proved::{F2Dot14, Fixed, GlyphId16, UfWord};
+use font_variations_proved::advances::{store_and_set, varied_by};
 use font_variations_proved::delta_sets::{read_delta, set_sum};
+use font_variations_proved::evaluator::segment_map;
 use font_variations_proved::maps::{DeltaSetIndex, read_delta_set_index};
 use fonts::{MAP, MAPS, at_the_limits, font, font_of, fvar, hvar, hvar_of_two_axes};
 use fonts::{long_axes, of_five_axes, two_axes, words};
@@ -266,6 +268,7 @@ fn program_instance() {
         ("wght=650", at("650") + "A: 620\na: 495\n"),
         ("1 wght=650", at("650") + "A: 620\na: 495\nglyph 1: 620\n"),
         ("47", at("400") + "A: 620\na: 500\nglyph 47: 620\n"),
+        ("47 47 47 47", at("400") + "A: 620\na: 500\n" + &"glyph 47: 620\n".repeat(4)),
         ("wght=100 wght=775.0", at("775") + "A: 620\na: 548\n"),
         ("wght=1000", at("1000") + "A: 620\na: 600\n"),
     ] {
@@ -412,12 +415,13 @@ fn characters_in_two_encodings() {
         [4, 32, 0, 4, 4, 1, 0, 65, 0xFFFF, 0, 65, 0xFFFF, glyph.wrapping_sub(65), 1, 0, 0]
     };
     let format_13 = [13, 0, 0, 28, 0, 0, 0, 1, 0, 66, 0, 66, 0, 9, 0, 0];
-    for (first, second, lines) in [
-        (format_4(3), format_4(4), "A: glyph 3\nB: no glyph\n"),
-        (format_4(0), format_13, "A: glyph 0\nB: no glyph\n"),
-        (format_13, format_4(4), "A: glyph 4\nB: no glyph\n"),
+    for (count, first, second, lines) in [
+        (2, format_4(3), format_4(4), "A: glyph 3\nB: no glyph\n"),
+        (2, format_4(0), format_13, "A: glyph 0\nB: no glyph\n"),
+        (2, format_13, format_4(4), "A: glyph 4\nB: no glyph\n"),
+        (1, format_13, format_4(4), "A: no glyph\nB: no glyph\n"),
     ] {
-        let cmap = words(&[&[0, 2, 3, 1, 0, 20, 3, 10, 0, 52][..], &first, &second].concat());
+        let cmap = words(&[&[0, count, 3, 1, 0, 20, 3, 10, 0, 52][..], &first, &second].concat());
         let bytes = font_of([(b"cmap", cmap)]);
         let mut text = String::new();
         dump(&dump::font::Font::new(&bytes).unwrap(), "AB", &mut text).unwrap();
@@ -459,4 +463,33 @@ fn programs_of_other_files() {
         let found = run(program, &[concat!(env!("CARGO_TARGET_TMPDIR"), "/absent"), ""]).1;
         assert!(found.starts_with("Error: Os {"), "{found}");
     }
+}
+
+// What ends early, or is counted too high, gives no advance, and none is out of range.
+#[test]
+fn variations_that_are_refused() {
+    let hvar = [
+        0, 1, 0, 0, 0, 0, 0, 20, 0, 0, 0, 0, 0, 0, 0, 0, 0, 0, 0, 0, 0, 1, 0, 0, 0, 12, 0, 1, 0, 0,
+        0, 22, 0, 1, 0, 1, 0, 0, 0x40, 0, 0x40, 0, 0, 1, 0, 1, 0, 1, 0, 0, 0, 40,
+    ];
+    let (glyph, peak) = (GlyphId16::new(0), [F2Dot14::ONE]);
+    let (store, set) = store_and_set(&hvar, glyph).unwrap();
+    assert_eq!(varied_by(UfWord::new(0xFFD7), store, set, &peak), Some(UfWord::new(0xFFFF)));
+    assert_eq!(varied_by(UfWord::new(0xFFD8), store, set, &peak), None);
+    // Seven subtables, whose offsets would end after the store.
+    let mut of_seven = store.to_vec();
+    of_seven[7] = 7;
+    assert_eq!(varied_by(UfWord::new(500), &of_seven, set, &peak), None);
+    assert!(store_and_set(&[0, 1, 0, 0, 0, 0, 0, 8, 0, 0, 0], glyph).is_none());
+    assert!(segment_map(&[0, 1, 0, 0, 0, 0, 0, 0, 0, 0], 0).is_none());
+}
+
+#[test]
+fn long_maps() {
+    let avar = [words(&[1, 0, 0, 2, 40_000]), vec![0; 160_000], words(&[1, 7, 9])].concat();
+    let found = [0, 1].map(|axis| segment_map(&avar, axis).unwrap());
+    assert_eq!((found[0].len(), found[1]), (160_000, &[0, 7, 0, 9][..]));
+    let map = [words(&[0x10, 40_000]), (0..40_000_u16).flat_map(u16::to_be_bytes).collect()];
+    let set = DeltaSetIndex { outer: 39_999 >> 1, inner: 1 };
+    assert_eq!(read_delta_set_index(&map.concat(), 39_999), Some(set));
 }

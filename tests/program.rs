@@ -66,8 +66,8 @@ fn stored_lines_in_parts() {
 // A line of more than 64 KB, the byte 0x04 at the end, and an argument, which is not read.
 #[test]
 fn long_lines_and_arguments() {
-    let line = format!("sum{}\nint8 04\n\x04", " 1 1".repeat(20_000));
-    assert_eq!(answers("long-line", line.as_bytes()), b"20000\n4\nerror 1\n");
+    let line = format!("sum{}\nint8 04\nuint8 64\n\x04", " 1 1".repeat(20_000));
+    assert_eq!(answers("long-line", line.as_bytes()), b"20000\n4\n100\nerror 1\n");
     let mut command = runner::command(Path::new(env!("CARGO_BIN_EXE_fontval")));
     let run = command.arg("x").stdin(Stdio::null()).output().unwrap();
     assert!(run.status.success() && run.stdout.is_empty() && run.stderr.is_empty());

@@ -94,6 +94,12 @@ class Gate(unittest.TestCase):
         steps = {call for call in calls if not call.startswith(("font", "rows"))}
         # A step that is lost or added changes this number.
         self.assertEqual(len(steps), 25)
+        # A step that checks nothing would not fail.
+        needed = {"cargo clippy": " -D warnings", "cargo fmt": " --check ", "python3 -B": " -p *.py"}
+        for call in steps:
+            self.assertNotIn("--no-run", call)
+            for start, words in needed.items():
+                self.assertIn(words, call if call.startswith(start) else words)
         for fail in [*steps, *FAULTS, *LEFT_OUT]:
             self.assertEqual(self.run_gate(fail), LEFT_OUT.get(fail), fail)
         # A kit that keeps no results does not know the argument.
