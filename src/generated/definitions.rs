@@ -1377,7 +1377,7 @@ pub mod font_fixed {
         pub mod ParsesFixedPoint {}
     }
 
-    /// Rounding raw values to integers. The project's own.
+    /// Rounding a fixed-point number to an integer, half up: the raw value of that integer.
     ///
     /// In the order of `crates/font_fixed/specs/Rounding.antt`: [`rounded`](mod@Rounding::rounded).
     pub mod Rounding {

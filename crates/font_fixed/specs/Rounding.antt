@@ -1,4 +1,4 @@
--- Rounding raw values to integers. The project's own.
+-- Rounding a fixed-point number to an integer, half up: the raw value of that integer.
 use Rattle.std.specs.Prelude.{◌^◌, ℕ, ℤ, pos, ◌*ℤ◌}
 use Rattle.font_decimal.specs.Near.{up}
 
