@@ -48,7 +48,7 @@ digit_more p q d small =
 pub record IsRaised (p : ℕ) (bytes front : List ℕ) (numeral : ℕ) : Type 0 where
   pub fits : get_or bytes (POINT + p) 0 < 57
   pub text : take (POINT + 1 + p) (set bytes (POINT + p) (get_or bytes (POINT + p) 0 + 1))
-    ≡ front ++ last_digits p numeral
+      ≡ front ++ last_digits p numeral
 
 pub digit_raised : {m f q rest : ℕ} (p : ℕ) (bytes front : List ℕ) → IsFewest m f p → HasRest m f p q rest
     → 2 ^ f ≤ rest → min rest (2 * 2 ^ f - rest) < 10 ^ p → POINT + 1 + p ≤ length bytes
