@@ -48,9 +48,14 @@ class Requirements(unittest.TestCase):
                 for literal in shown if label and label != "stdin" else ():
                     self.assertTrue(has(codes[label], in_one_line(literal)), f"{label}: {literal}")
         self.assertEqual((rows, literals), (234, 699))
-        # Those are required that say so.
+        # Those are required that say so, and each stands where the page says.
         says = "\n# required by tools/tests/requirements.md\n"
-        required = [
-            edit.stem for edit in ROOT.glob("crates/*/must-fail/*.edit") if says in edit.read_text()
-        ]
+        edits = {edit: edit.read_text() for edit in ROOT.glob("crates/*/must-fail/*.edit")}
+        required = {
+            edit.stem: f"{edit.parts[-3]}: {text.splitlines()[0].removeprefix('# clause: ')}"
+            for edit, text in edits.items()
+            if says in text
+        }
         self.assertEqual(sorted(mutants), sorted(required))
+        shown = re.findall(r"^\| `(\w+)` \| (\w+: .*) \|$", PAGE, re.MULTILINE)
+        self.assertEqual(dict(shown), required)
