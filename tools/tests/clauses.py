@@ -35,7 +35,10 @@ def gives(eraser, at):
     opens = angle_end(words, at + 2) if words[at + 2] == "<" else at + 2
     end = eraser.group_end(opens)
     parameters = " ".join(words[opens:end])
-    found = [f"{name} . new" for name in re.findall(r"(\w+) : & (?:'\w+ )?mut ", parameters)]
+    # What the result borrows has no value at the return.
+    borrowed = words[end : eraser.header_end(at)]
+    mutable = re.findall(r"(\w+) : & (?:('\w+) )?mut ", parameters)
+    found = [f"{name} . new" for name, lifetime in mutable if lifetime not in borrowed]
     found += ["self . new"] * bool(re.match(r"\( & (?:'\w+ )?mut self ", parameters))
     if words[end : end + 2] != ["-", ">"]:
         return found

@@ -8,7 +8,8 @@ use Rattle.variations.specs.Variations.{IsScalarOf, IsScalarAlong, IsNearScalar,
 use Rattle.variations.specs.Variations.{IsSumThrough, IsTerm, IsTermProduct, IsSetSum, IsNearSetSum, IsNearAdvance}
 use Rattle.variations.specs.Variations.{exact_delta, sum_halves, sum_of_magnitudes, region_bytes, region_index}
 use Rattle.variations.specs.Variations.{region_index_count, axis_count, delta_of, moved, exact_region_scalar, HasRegion}
-use Rattle.variations.specs.Variations.{region_offset, delta_place, column_place, AreScalars, IsRegionScalar}
+use Rattle.variations.specs.Variations.{region_offset, delta_place, column_place, AreScalars, IsRegionScalar, HasRow}
+use Rattle.variations.specs.Variations.{HasDelta, word_delta_count}
 use Rattle.variations.proofs.Fractions.{IsPartOff, off_by, axis_off, next_axis_off, first_axis_off, plus_off}
 use Rattle.variations.proofs.Fractions.{scaled_off, whole_off, rounded_off}
 
@@ -171,4 +172,14 @@ pub place_in_row : (words count set column : ℕ)
     → delta_place words count set column ≡ delta_place words count set 0 + column_place words column
 place_in_row words count set column = grind (arith, common_steps)
 
-pub ruleset row_rules = (region_at_most, place_in_row)
+pub row_of_delta : (subtable : List ℕ) (set column : ℕ) → HasDelta subtable set column → HasRow subtable set
+row_of_delta subtable set column has =
+    let place = place_in_row (word_delta_count subtable) (region_index_count subtable) set column in
+    record {
+      header = omega (arith, has.bytes);
+      wide = has.wide;
+      is_set = has.is_set;
+      bytes = omega (arith, place, has.bytes);
+    }
+
+pub ruleset row_rules = (region_at_most, place_in_row, row_of_delta)

@@ -15,12 +15,11 @@ const WORD_DELTA_COUNT_MASK: u16 = 0x7FFF;
 #[must_use]
 pub fn read_delta(subtable: &[u8], set: u16, column: u16) -> Option<i32> {
     let (words, count) = (u16::read_at(subtable, 2)?, u16::read_at(subtable, 4)?);
-    if set >= u16::read_at(subtable, 0)? || column >= count || words & WORD_DELTA_COUNT_MASK > count
-    {
+    if column >= count {
         return None;
     }
-    let offset = usize::try_from(offset_of(words, count, set, column)).ok()?;
-    read_signed(subtable, offset, width_of(words, column))
+    let row = row_of(subtable, set)?;
+    Some(column_in(subtable, row, words, set, column)?.1)
 }
 
 // Returns the size of a narrow delta, by the count of wide columns.
@@ -28,21 +27,10 @@ fn narrow_width_of(words: u16) -> usize {
     if words & LONG_WORDS != 0 { 2 } else { 1 }
 }
 
-// Returns the size of a delta.
-fn width_of(words: u16, column: u16) -> usize {
-    if column < words & WORD_DELTA_COUNT_MASK {
-        2 * narrow_width_of(words)
-    } else {
-        narrow_width_of(words)
-    }
-}
-
-// Returns the offset of the delta of a column in a set, which a `usize` of 32 bits may not hold.
-fn offset_of(words: u16, count: u16, set: u16, column: u16) -> u64 {
-    let wide = words & WORD_DELTA_COUNT_MASK;
-    let row = u64::from(count) + u64::from(wide);
-    let units = u64::from(set) * row + u64::from(column) + u64::from(column.min(wide));
-    6 + 2 * u64::from(count) + narrow_width_of(words) as u64 * units
+// Returns the offset of the row of a set, which a `usize` of 32 bits may not hold.
+fn offset_of(words: u16, count: u16, set: u16) -> u64 {
+    let row = u64::from(count) + u64::from(words & WORD_DELTA_COUNT_MASK);
+    6 + 2 * u64::from(count) + narrow_width_of(words) as u64 * (u64::from(set) * row)
 }
 
 // Returns the bytes of a subtable from the first delta of a set on.
@@ -51,7 +39,7 @@ pub(crate) fn row_of(subtable: &[u8], set: u16) -> Option<&[u8]> {
     if set >= u16::read_at(subtable, 0)? || words & WORD_DELTA_COUNT_MASK > count {
         return None;
     }
-    subtable.get(usize::try_from(offset_of(words, count, set, 0)).ok()?..)
+    subtable.get(usize::try_from(offset_of(words, count, set)).ok()?..)
 }
 
 // Reads the delta of a column from the row of a set, by the count of wide columns.
