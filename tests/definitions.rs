@@ -3,7 +3,7 @@
 
 mod exact;
 
-use exact::{fits, near, up};
+use exact::{fits, near, up, wrap};
 use font_types_proved::*;
 use std::fmt::Debug;
 use std::ops::*;
@@ -701,6 +701,64 @@ fn checked_images_and_products() {
     const HALVED: Option<(Fixed, Fixed)> = Matrix::from_elements([Fixed::from_bits(0x8000); 6])
         .checked_transform(Fixed::ONE, Fixed::ONE);
     assert_eq!(HALVED.map(|(x, _)| x.to_bits()), Some(0x1_8000));
+}
+
+/// Returns `x * a / c` as `mul_div` does.
+fn scaled(x: i128, a: i128, c: i128) -> i128 {
+    let greatest = i128::from(i32::MAX);
+    match c {
+        0 if (x < 0) != (a < 0) => -greatest,
+        0 => greatest,
+        _ => wrap(32, near(x * a, c)),
+    }
+}
+
+#[test]
+fn laws_of_calls() {
+    let raw = |n: i128| Fixed::from_bits(n as i32);
+    for [x, a, c] in
+        factors().flat_map(|x| factors().flat_map(move |a| factors().map(move |c| [x, a, c])))
+    {
+        let [n, m, d] = [x, a, c].map(i128::from);
+        let [x, a, c] = [x, a, c].map(Fixed::from_bits);
+        let up_and_back = laws::fixed::scaled_back(x, a, c);
+        let first = scaled(n, m, d);
+        assert_eq!(up_and_back, (raw(first), raw(scaled(first, d, m))), "{x:?} {a:?} {c:?}");
+        let is_kept = 0 < d && d <= m && fits(32, near(n * m, d));
+        assert!(!is_kept || up_and_back.1 == x, "{x:?} {a:?} {c:?}");
+        let parts = laws::scaled_in_parts(&[x, a, x, c], a, c);
+        let each: i128 = [n, m, n, d].iter().map(|n| scaled(*n, m, d)).sum();
+        let right = [each, scaled(wrap(32, 2 * n + m + d), m, d)].map(|n| raw(wrap(32, n)));
+        assert_eq!(parts, right.into(), "{x:?} {a:?} {c:?}");
+        // The delta moves half of a unit up, and no more.
+        let [delta, more] = [m * 65_537, m * 65_537 + d].map(|n| F48Dot16::from_bits(n as i64));
+        let moved = |n, delta: F48Dot16| {
+            fitting(up((n << 16) + i128::from(delta.to_bits()), 1 << 16)).map(Fixed::from_bits)
+        };
+        assert_eq!(laws::fixed::delta_in_steps(x, delta), (moved(n, delta), moved(n, delta)));
+        let found = laws::fixed::deltas_in_order(x, c, delta, more);
+        assert_eq!(found, (moved(n, delta), moved(d, more)), "{x:?} {a:?} {c:?}");
+        let matrix = Matrix::from_elements([x, a, c, x, a, c]);
+        let row = |u, v, e| raw(wrap(32, near(u * n, 1 << 16) + near(v * d, 1 << 16) + e));
+        let image = Point::new(row(n, d, m), row(m, n, d));
+        assert_eq!(laws::image(matrix, Point::new(x, c)), image, "{x:?} {a:?} {c:?}");
+    }
+    // At most 4 digits of 2.14, 9 of 2.30 and 1 of 26.6, and one more or a needless zero.
+    for (text, f, shown) in [
+        ("-1.9999", 14, "-1.9999"),
+        ("0.12345", 14, "0.1235"),
+        ("1.999999999", 30, "1.999999999"),
+        ("-0.0000000005", 30, "-0.000000001"),
+        ("72.9", 6, "72.9"),
+        ("72.12", 6, "72.13"),
+        ("1.50", 16, "1.5"),
+        ("-00", 16, "0"),
+    ] {
+        let printed = laws::printed_again(text, f, i64::MIN, i64::MAX).unwrap();
+        assert_eq!(printed.as_str(), shown, "{text} of {f}");
+    }
+    let found = laws::printed_again("2", 14, -0x8000, 0x7FFF).map(|text| text.to_string());
+    assert_eq!(found, Err(DecimalFault::OutOfRange));
 }
 
 /// Compares constants from decimals with `decimal * 2^f / 10^places`, rounded half away from zero.
