@@ -1,5 +1,6 @@
-//! Prints the advances of characters, and of glyphs by their numbers, in an instance of a variable
-//! font: `cargo run --example instance -- FONT TEXT 36 37 wght=600 wdth=87.5`.
+//! Prints the advances of characters, of glyphs by their numbers, and of `all` glyphs, and the deltas
+//! of `metrics`, in an instance of a variable font:
+//! `cargo run --example instance -- FONT TEXT 36 37 wght=600 wdth=87.5`.
 //!
 //! What is here finds the tables. What reads them and computes coordinates and advances is proved:
 //! it is the package `font-variations-proved`.
@@ -12,11 +13,12 @@
 pub mod font;
 
 use font::Font;
-use font_types_proved::{F2Dot14, Fixed, GlyphId16, Scalar, Tag, UfWord, records};
+use font_types_proved::{F2Dot14, F48Dot16, Fixed, GlyphId16, Scalar, Tag, UfWord, records};
 use font_variations_proved::advances::{store_and_set, varied_by};
 use font_variations_proved::evaluator::{Setting, SettingError, VariationAxisRecord, segment_map};
 use font_variations_proved::evaluator::{final_coordinate, normalize, read_axis, read_setting};
 use font_variations_proved::instances::{StoreInstance, region_count};
+use font_variations_proved::maps::DeltaSetIndex;
 
 /// A table, which must be of this major version, if the font has it.
 fn of_version<'a>(
@@ -94,16 +96,33 @@ pub fn advance(
     }
 }
 
-/// The advances of all glyphs at these coordinates, where `HVAR` has them: the scalar of each region
-/// is computed once.
-pub fn advances(font: &Font<'_>, coordinates: &[F2Dot14]) -> Option<Vec<Option<UfWord>>> {
-    let hvar = font.table(b"HVAR")?;
-    let glyphs = || (0..font.glyph_count().unwrap_or(0)).map(GlyphId16::new);
-    let (store, _) = glyphs().find_map(|glyph| store_and_set(hvar, glyph))?;
+/// The advances of all glyphs at these coordinates, by `HVAR`: the scalar of each region is computed
+/// once.
+pub fn all_advances(font: &Font<'_>, coordinates: &[F2Dot14]) -> Option<Vec<UfWord>> {
+    let hvar = of_version(font, b"HVAR", 1).ok()??;
+    let (store, _) = store_and_set(hvar, GlyphId16::new(0))?;
     let mut scalars = vec![Fixed::ZERO; region_count(store)?.into()];
     let instance = StoreInstance::new(store, coordinates, &mut scalars)?;
-    let varied = |glyph| instance.varied(font.advance(glyph)?, store_and_set(hvar, glyph)?.1);
-    Some(glyphs().map(varied).collect())
+    let glyphs = (0..font.glyph_count()?).map(GlyphId16::new);
+    glyphs
+        .map(|glyph| instance.varied(font.advance(glyph)?, store_and_set(hvar, glyph)?.1))
+        .collect()
+}
+
+/// The deltas of the font's metrics at these coordinates, by `MVAR`: of `xhgt`, the height of an x,
+/// and others.
+pub fn metrics(font: &Font<'_>, coordinates: &[F2Dot14]) -> Option<Vec<(Tag, F48Dot16)>> {
+    let mvar = of_version(font, b"MVAR", 1).ok()??;
+    let [size, count, store] = [6, 8, 10].map(|field| u16::read_at(mvar, field).map(usize::from));
+    let store = mvar.get(store?..)?;
+    let mut scalars = vec![Fixed::ZERO; region_count(store)?.into()];
+    let instance = StoreInstance::new(store, coordinates, &mut scalars)?;
+    let delta = |record| {
+        let [outer, inner] = [4, 6].map(|field| u16::read_at(record, field).map(u32::from));
+        let set = DeltaSetIndex { outer: outer?, inner: inner? };
+        Some((Tag::read_at(record, 0)?, instance.delta(set)?))
+    };
+    records(mvar, 12, count?, size?)?.map(delta).collect()
 }
 
 /// The setting that a word is, of an axis that the font has.
@@ -128,6 +147,8 @@ fn main() -> Result<(), Box<dyn std::error::Error>> {
     let font = Font::new(&bytes).ok_or("no font of one face")?;
     let axes = axes(&font)?;
     let (glyphs, words): (Vec<_>, Vec<_>) = words.partition(|word| word.parse::<u16>().is_ok());
+    let (more, words): (Vec<_>, Vec<_>) =
+        words.into_iter().partition(|word| ["all", "metrics"].contains(&word.as_str()));
     let settings: Result<Vec<Setting>, String> =
         words.iter().map(|word| setting(word, &axes)).collect();
     let settings = settings?;
@@ -140,13 +161,6 @@ fn main() -> Result<(), Box<dyn std::error::Error>> {
         println!("{tag}: {value}, from {min} to {max}");
         coordinates.push(normalized(&font, n, axis, value)?);
     }
-    if text == "all" {
-        for (glyph, advance) in advances(&font, &coordinates).ok_or("no `HVAR`")?.iter().enumerate()
-        {
-            println!("glyph {glyph}: {}", advance.ok_or("no advance by `HVAR`")?);
-        }
-        return Ok(());
-    }
     for character in text.chars() {
         let glyph = glyph(&font, character)?;
         println!("{character}: {}", advance(&font, glyph, &coordinates)?);
@@ -154,6 +168,18 @@ fn main() -> Result<(), Box<dyn std::error::Error>> {
     for glyph in glyphs.iter().flat_map(|word| word.parse()) {
         let advance = advance(&font, GlyphId16::new(glyph), &coordinates)?;
         println!("glyph {glyph}: {advance}");
+    }
+    if more.contains(&"all".into()) {
+        let advances =
+            all_advances(&font, &coordinates).ok_or("no advances of all glyphs by `HVAR`")?;
+        for (glyph, advance) in advances.iter().enumerate() {
+            println!("glyph {glyph}: {advance}");
+        }
+    }
+    if more.contains(&"metrics".into()) {
+        for (tag, delta) in metrics(&font, &coordinates).ok_or("no deltas by `MVAR`")? {
+            println!("{tag}: {delta}");
+        }
     }
     Ok(())
 }

@@ -10,14 +10,14 @@ mod fonts;
 mod runner;
 
 use dump::dump;
-use font_types_proved::{F2Dot14, Fixed, GlyphId16, UfWord};
+use font_types_proved::{F2Dot14, F48Dot16, Fixed, GlyphId16, Tag, UfWord};
 use font_variations_proved::advances::{store_and_set, varied_by};
 use font_variations_proved::delta_sets::{read_delta, set_sum};
 use font_variations_proved::evaluator::segment_map;
 use font_variations_proved::maps::{DeltaSetIndex, read_delta_set_index};
 use fonts::{MAP, MAPS, at_the_limits, font, font_of, fvar, hvar, hvar_of_two_axes};
 use fonts::{long_axes, of_five_axes, two_axes, words};
-use instance::{advance, axes, normalized};
+use instance::{advance, all_advances, axes, metrics, normalized};
 use std::fs;
 use std::path::{Path, PathBuf};
 
@@ -217,7 +217,48 @@ fn advances_along_two_axes() {
                 assert_eq!(found.ok(), wanted, "{map:?}, glyph {glyph} at {at:?}");
             }
         }
+        for at in settings.map(|at| at.map(F2Dot14::from_bits)) {
+            let glyphs = (0..48).map(GlyphId16::new);
+            let apart = glyphs.map(|glyph| advance(&font, glyph, &at).ok()).collect();
+            assert_eq!(all_advances(&font, &at), apart, "{map:?} at {at:?}");
+        }
     }
+}
+
+// The delta sets of glyphs 0 and 1 above, as fontTools has them, and of no variation, in records of
+// ten bytes.
+#[test]
+fn metrics_along_two_axes() {
+    let table = |size: u16, count: u16| {
+        let head = words(&[1, 0, 0, size, count, 12 + 3 * 10]);
+        let record = |tag: &[u8; 4], set: [u16; 2]| [&tag[..], &words(&set), &[7, 7]].concat();
+        let sets = [(b"xhgt", [0, 0]), (b"hasc", [0, 1]), (b"undo", [0xFFFF, 0xFFFF])];
+        let records = sets.map(|(tag, set)| record(tag, set)).concat();
+        let mvar = [head, records, hvar_of_two_axes(&[])[20..].to_vec()].concat();
+        font_of([(b"MVAR", mvar), (b"fvar", two_axes())])
+    };
+    let found = |bytes: &[u8], at: [i16; 2]| {
+        let font = instance::font::Font::new(bytes).unwrap();
+        metrics(&font, &at.map(F2Dot14::from_bits))
+    };
+    for (at, deltas) in [([0x2000, 0x2000], [10, 25, 0]), ([0x3000, 0x2000], [15, 38, 0])] {
+        let tags = [b"xhgt", b"hasc", b"undo"].map(Tag::new);
+        let right = tags.into_iter().zip(deltas.map(F48Dot16::from_i32)).collect();
+        let found = found(&table(10, 3), at).map(|found| {
+            found.into_iter().map(|(tag, delta)| (tag, delta.round())).collect::<Vec<_>>()
+        });
+        assert_eq!(found, Some(right), "{at:?}");
+    }
+    // Records that do not hold a set, of no bytes, and more than the table has.
+    for (size, count) in [(7, 3), (0, 3), (10, 3000)] {
+        assert_eq!(found(&table(size, count), [0, 0]), None, "{size} {count}");
+    }
+    // The record of an axis ends before the fields that are read.
+    let mut short = two_axes();
+    short[11] = 12;
+    let bytes = font_of([(b"fvar", short)]);
+    let axes = axes(&instance::font::Font::new(&bytes).unwrap());
+    assert_eq!(axes.unwrap_err(), "`fvar` ends before its axes");
 }
 
 // fontTools 4.38 gives these numbers, by these lines, the second if there is a table `avar`:

@@ -173,6 +173,9 @@ fn term_in(
 
 /// Returns the exact sum of the deltas of a set, each times the scalar of its region, or `None` if
 /// the subtable does not have the set or the list not all its regions.
+///
+/// For each column of the set, all axes of its region are walked, whatever the number of
+/// coordinates. A font of 400 kB can have 65,535 axes and 1,000 columns.
 #[must_use]
 #[tactic(auto, using(font_types::proofs::Callers::calls, crate::proofs::Stores::sum_rules))]
 pub fn set_sum(

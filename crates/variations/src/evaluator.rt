@@ -246,6 +246,9 @@ pub fn to_stored(coordinate: Fixed) -> F2Dot14
 
 /// Finds the mappings of an axis in a table `avar`, each of four bytes. Returns `None` if the table
 /// has no such axis, or ends before the map of the axis does.
+///
+/// The maps of the axes before it are walked. So one call for each axis takes a time that grows as
+/// the square of the number of axes. The version of the table is not read: it has to be 1.
 #[must_use]
 #[tactic(auto, using(font_types::proofs::Callers::calls, crate::proofs::Segments::map_rules))]
 pub fn segment_map(avar: &[u8], axis: u16) -> Option<&[u8]>

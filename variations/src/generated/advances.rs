@@ -24,8 +24,11 @@ fn glyph_set(hvar: &[u8], glyph: u16) -> Option<DeltaSetIndex> {
     read_delta_set_index(at_offset(hvar, 8)?, inner)
 }
 
-/// Finds the item variation store of a table `HVAR`, and the delta set of a glyph's advance in it.
-/// Returns `None` if an offset is null or points past the end, or if the map has no entry.
+/// Finds the item variation store of a table `HVAR`, and the indices of the delta set of a glyph's
+/// advance, which the store may not have. Returns `None` if the offset of the store is null, an
+/// offset points past the end, or the map of glyphs has no entry.
+///
+/// The version of the table is not read: it has to be 1.
 #[must_use]
 pub fn store_and_set(hvar: &[u8], glyph: GlyphId16) -> Option<(&[u8], DeltaSetIndex)> {
     let store = at_offset(hvar, 4)?;
@@ -48,6 +51,10 @@ pub(crate) fn data_of(store: &[u8], set: DeltaSetIndex) -> Option<(&[u8], &[u8],
 /// once, half up, as [`vary_advance`] does. The set without variation data, 0xFFFF and 0xFFFF, does
 /// not change the advance. Returns `None` if the store does not have the set, or the result is out
 /// of range.
+///
+/// The time is that of [`set_sum`](crate::delta_sets::set_sum), which an untrusted font can make
+/// long: for such a font, and for many glyphs, use
+/// [`StoreInstance`](crate::instances::StoreInstance).
 #[must_use]
 pub fn varied_by(
     advance: UfWord,

@@ -16,8 +16,10 @@ pub fn region_count(store: &[u8]) -> Option<u16> {
 }
 
 /// An item variation store at the coordinates of an instance, with the scalar of each region. It
-/// answers as [`varied_by`](crate::advances::varied_by) does at these coordinates, but a delta of a
-/// set takes one product, whatever the number of axes.
+/// answers as [`varied_by`](crate::advances::varied_by) does at these coordinates.
+///
+/// `new` walks each axis of each region once, which is linear in the bytes of the store. After that
+/// a column of a set takes one product, whatever the number of axes.
 #[derive(Clone, Copy, Debug)]
 pub struct StoreInstance<'a> {
     store: &'a [u8],
