@@ -27,10 +27,10 @@ OTHERS = (
 # comments in tests: a commit that adds or removes one changes its number here. A path, the ending
 # of its files, and a text.
 COUNTS = [
-    ("tests/", ".rs", "#[test]\n", 199),
+    ("tests/", ".rs", "#[test]\n", 200),
     ("compare/tests/", ".rs", "#[test]\n", 33),
     ("crates/", ".rt", "#[test]\n", 152),
-    ("tools/tests/", ".py", "\n    def test_", 20),
+    ("tools/tests/", ".py", "\n    def test_", 21),
     ("tests/", ".rs", "#[ignore", 0),
     ("compare/tests/", ".rs", "#[ignore", 0),
     ("tests/", ".rs", "#[cfg", 11),
@@ -130,6 +130,16 @@ class Pages(unittest.TestCase):
             self.assertTrue(squeezed(block) in source, block)
         file, after = text("docs/CALLING.md").split("](../crates/callers/", 1)[1].split(")", 1)
         self.assertEqual(after.split("```")[1].split("\n", 1)[1], text(f"crates/callers/{file}"))
+
+    def test_signs_of_contracts(self):
+        """The legend has each sign and each member of a callback that contracts use."""
+        shown = [text(path) for path in of("src/generated/", ".rs")]
+        clauses = "".join(re.findall(r"/// ```text\n(.*?)/// ```", "".join(shown), re.DOTALL))
+        code = re.sub(r"///|//.*|-- .*", "", clauses)
+        signs = re.findall(r"[+*<-]?[^\x00-\x7f]+|&&|==|\+\+|\^|\bF\.\w+", code)
+        page = "".join(text("src/contracts.md").split("```")[::2])
+        legend = " ".join(re.findall("`([^`]+)`", page))
+        self.assertFalse({sign for sign in signs if sign not in legend})
 
 
 class Package(unittest.TestCase):
