@@ -6,18 +6,12 @@ mod fontval_lines;
 #[path = "../src/bin/fontval/host/mod.rs"]
 mod host;
 
-macro_rules! eprint {
-    ($rt:expr; $($text:tt)*) => {
-        io::eprint(&$rt, format_args!($($text)*))
-    };
-}
-
 #[allow(unused_imports, clippy::explicit_counter_loop)]
-#[path = "../src/bin/fontval/generated/mod.rs"]
-mod fontval;
+#[path = "../src/bin/fontval/generated/font_lines/mod.rs"]
+mod font_lines;
 
-use fontval::device::{FromRead, FromWrite};
-use fontval::serve::{ServeFault, serve};
+use font_lines::device::{FromRead, FromWrite};
+use font_lines::serve::{ServeFault, serve};
 use fontval_lines::{ANSWERS, LINES, assert_answers};
 use host::alloc::{Global, Vec};
 use host::{hex, io};

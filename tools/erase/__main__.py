@@ -27,7 +27,8 @@ CRATES = [
         (Crate(name, "library", LEFT_OUT.get(name, ())), "lib", f"src/generated/{name}")
         for name in eraser.LIBRARY
     ),
-    (Crate("fontval", "program", ()), "main", "src/bin/fontval/generated"),
+    (Crate("font_lines", "program", ()), "lib", "src/bin/fontval/generated/font_lines"),
+    (Crate("fontval", "program", ()), "main", "src/bin/fontval/generated/fontval"),
     (Crate("font_c", "exports", ()), "lib", "c/src/generated/font_c"),
     (Crate("variations", "variations", ()), "lib", "variations/src/generated"),
     *(

@@ -184,7 +184,7 @@ class Eraser:
             self.replace(at, "crate::rattle" if target == "tests" else "core")
         elif name == "font_types" and target in ("program", "variations"):
             self.replace(at, "font_types_proved")
-        elif name in LIBRARY:
+        elif name in (*LIBRARY, "font_lines"):
             self.put(at, "crate::")
 
     def item(self, at):

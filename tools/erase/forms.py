@@ -29,7 +29,7 @@ OTHERS = set(
     "type_name_of_val".split()
 )
 
-ROOT = "(crate|std|font_(decimal|base|fixed|tags|ids|geom|types)) "
+ROOT = "(crate|std|font_(decimal|base|fixed|tags|ids|geom|types|lines)) "
 NAME = r"(?!_ )[^\W\d]\w* "
 START = r"(?<! :: )((?<! \. )|(?<= \. \. ))"
 # An item may begin here, not a type such as `impl Copy`.

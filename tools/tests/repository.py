@@ -36,7 +36,7 @@ COUNTS = [
     ("tests/", ".rs", "#[cfg", 11),
     ("tests/", ".rs", "return;", 0),
     ("tests/", ".rs", "/*", 0),
-    ("crates/", ".rt", "\nmod ", 112),
+    ("crates/", ".rt", "\nmod ", 111),
     ("crates/", ".edit", "# clause: ", 277),
     ("crates/", ".edit", "# control: ", 73),
     ("crates/fontval/", "stdin", "\n", 213),
@@ -59,14 +59,14 @@ ITEMS = [
         "font_types/src/json.rt",
         "#[derive(Clone, Debug, PartialEq, Eq, Drop, Error)] pub enum JsonFault",
     ),
-    ("fontval/src/serve.rt", "#[derive(Debug, Drop, Error)] pub enum ServeFault"),
-    ("fontval/src/device.rt", "#[derive(Drop)] pub struct Failed;"),
+    ("font_lines/src/serve.rt", "#[derive(Debug, Drop, Error)] pub enum ServeFault"),
+    ("font_lines/src/device.rt", "#[derive(Drop)] pub struct Failed;"),
     (
-        "fontval/src/device/from_read.rt",
+        "font_lines/src/device/from_read.rt",
         "#[derive(Drop)] pub struct FromRead<R> { reader: R, failed: bool, }",
     ),
     (
-        "fontval/src/device/from_write.rt",
+        "font_lines/src/device/from_write.rt",
         "#[derive(Drop)] pub struct FromWrite<W> { writer: W, failed: bool, }",
     ),
 ]

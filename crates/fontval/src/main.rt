@@ -1,26 +1,15 @@
 //! `fontval` reads lines of commands from standard input to its end, and writes an answer to each
-//! on standard output. It takes no arguments.
+//! on standard output. It takes no arguments. `font_lines` has the commands.
 #![tactic(auto)]
 
-mod answers;
-mod command;
-pub mod device;
-mod error;
-mod exit;
-mod images;
-mod integer;
-mod numbers;
-mod output;
-mod parse;
-mod report;
-pub mod serve;
-mod text;
-
-use device::{FromRead, FromWrite};
-use exit::exit;
-use serve::serve;
+pub use font_lines::device::{Failed, FromRead, FromWrite, Sink, Source};
+use font_lines::exit::exit;
+pub use font_lines::serve::{ServeFault, serve};
 use std::io;
 use std::process::ExitCode;
+
+#[cfg(test)]
+mod tests;
 
 // No clause can say what the standard streams read and wrote. If standard error fails, its text is
 // lost, and the status stays.

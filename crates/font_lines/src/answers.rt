@@ -1,0 +1,57 @@
+//! The answers to the lines of an input.
+
+ghost use Rattle.std.specs.Prelude.{◌≡◌, ℕ, List, IfOk, OnOk};
+ghost use Rattle.font_lines.specs.Answers.{AppendsAnswer, Answers};
+ghost use Rattle.font_lines.specs.{Command.IsAnswer, Error.GivesAnswer, Text.words_of};
+
+use crate::command::Command;
+use crate::error::{CommandError, LineError};
+use crate::text::{Lines, Words};
+use std::alloc::{AllocError, Allocator};
+
+/// Returns the answers to the lines of an input, each followed by a line feed.
+#[tactic(auto, using(crate::proofs::Commands::answer_steps))]
+pub fn answers<A: Allocator + Copy>(alloc: A, input: &[u8]) -> Result<Vec<u8, A>, AllocError>
+    ensures answers { IfOk result (λ output. Answers input.now output.items) }
+    ensures only { IfOk result (λ output. (other : List ℕ)
+        → Answers input.now other → other ≡ output.items) }
+{
+    let mut output = Vec::new(alloc);
+    for line in Lines::new(input) {
+        append_answer(alloc, line, &mut output)?;
+        output.push(b'\n')?;
+    }
+    Ok(output)
+}
+
+// Appends the answer to a line.
+#[inline(always)]
+fn append_answer<A: Allocator>(
+    alloc: A,
+    line: &[u8],
+    output: &mut Vec<u8, A>,
+) -> Result<(), AllocError>
+    ensures { OnOk result
+        (AppendsAnswer line.now output.old.items output.new.items) }
+{
+    match append_text(alloc, line, output) {
+        Ok(()) => Ok(()),
+        Err(CommandError::Memory) => Err(AllocError),
+        Err(CommandError::Line(error)) => output.extend_from_slice(error.answer()),
+    }
+}
+
+// Appends the answer to a line, unless it is an error.
+#[inline(always)]
+fn append_text<A: Allocator>(
+    alloc: A,
+    line: &[u8],
+    output: &mut Vec<u8, A>,
+) -> Result<(), CommandError>
+    ensures { GivesAnswer (IsAnswer (words_of line.now))
+        output.old.items output.new.items result }
+{
+    let mut words = Words::new(line);
+    let name = words.next().ok_or(LineError::UnknownCommand)?;
+    Command::named(name)?.answer(alloc, words, output)
+}

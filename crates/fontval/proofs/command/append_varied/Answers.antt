@@ -1,9 +1,0 @@
-use Rattle.std.proofs.Common.{rules}
-use Rattle.fontval.specs.Text.{words_of}
-use Rattle.fontval.proofs.Commands.{given_varied}
-use Rattle.fontval.proofs.command.append_varied.Goals as goal
-
-pub returns : goal.returns
-returns g c = given_varied (words_of c.args.words.rest.now) (words_of c.next.new.self.rest.now) c.in_ok-base.base.now
-    c.in-Ok.units c.in_ok-terms.terms.items c.args.output.now.items c.append_signed.new.output.items
-    c.append_signed.result (search rules) (search rules) (search rules) (search rules)

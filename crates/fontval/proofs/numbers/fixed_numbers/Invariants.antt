@@ -1,7 +1,0 @@
-use Rattle.fontval.specs.Text.{words_of}
-use Rattle.fontval.proofs.WordByWord.{AreNumbersUpTo}
-use Rattle.fontval.proofs.numbers.fixed_numbers.Given as goal
-
-abbrev pub invariant-loop-word : goal.invariant-loop-word
-invariant-loop-word g l =
-    AreNumbersUpTo g.row.N (words_of l.fn.words.rest.now) (words_of l.words.rest.now) l.numbers l.at

@@ -1,0 +1,61 @@
+// @generated from crates/font_lines/src/report.rt by tools/erase
+
+//! The answer about a tag.
+
+use crate::host::*;
+
+use crate::font_lines::error::CommandError;
+use crate::font_lines::integer::append_signed;
+use crate::font_lines::output::append;
+use crate::host::alloc::Allocator;
+use font_types_proved::{InvalidTag, Tag};
+
+/// Appends a tag and the result of its validation.
+pub fn append_report<A: Allocator>(tag: Tag, output: &mut Vec<u8, A>) -> Result<(), CommandError> {
+    append_tag(tag, output)?;
+    append_validation(tag.validate(), output)
+}
+
+// Appends a tag.
+fn append_tag<A: Allocator>(tag: Tag, output: &mut Vec<u8, A>) -> Result<(), CommandError> {
+    let [first, second, third, fourth] = tag.to_be_bytes();
+    append_byte(first, output)?;
+    append_byte(second, output)?;
+    append_byte(third, output)?;
+    append_byte(fourth, output)
+}
+
+// Appends a byte as in the text of a tag.
+fn append_byte<A: Allocator>(byte: u8, output: &mut Vec<u8, A>) -> Result<(), CommandError> {
+    match byte {
+        0x20..=0x7E => append(&[byte], output),
+        _ => append(
+            &[b'{', b'0', b'x', hexadecimal_digit(byte / 16), hexadecimal_digit(byte % 16), b'}'],
+            output,
+        ),
+    }
+}
+
+// Returns the hexadecimal digit of a number below 16.
+fn hexadecimal_digit(n: u8) -> u8 {
+    if n < 10 { b'0' + n } else { b'A' + (n - 10) }
+}
+
+// Appends the result of a validation.
+fn append_validation<A: Allocator>(
+    validation: Result<(), InvalidTag>,
+    output: &mut Vec<u8, A>,
+) -> Result<(), CommandError> {
+    match validation {
+        Ok(()) => append(b" valid", output),
+        Err(InvalidTag::InvalidLength(_)) => append(b" length", output),
+        Err(InvalidTag::InvalidByte { pos, .. }) => {
+            append(b" byte ", output)?;
+            append_signed(false, pos as u64, output)
+        }
+        Err(InvalidTag::ByteAfterSpace { pos }) => {
+            append(b" space ", output)?;
+            append_signed(false, pos as u64, output)
+        }
+    }
+}
