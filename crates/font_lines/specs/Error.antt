@@ -41,7 +41,7 @@ pub record Grows (IsRight : Answer → Type 0) (old new : List ℕ) : Type 0 whe
 -- memory for it. An error is returned, and leaves the output unchanged.
 abbrev pub IsGiven : (Answer → Type 0) → List ℕ → List ℕ → Result (Unit {0}) CommandError → Type 0
 IsGiven IsRight old new (Ok done) = Grows IsRight old new
-IsGiven IsRight old new (Err Memory) = ⊤
+IsGiven IsRight old new (Err (Memory error)) = ⊤
 IsGiven IsRight old new (Err (Line error)) = IsRight (Err error) × (new ≡ old)
 
 -- the outcome and the output agree with an answer that has this property
@@ -51,5 +51,5 @@ pub record GivesAnswer (IsRight : Answer → Type 0) (old new : List ℕ)
 
 -- if a command returns the error of a line, the predicate holds of it
 abbrev pub OnLineError : CommandError → (LineError → Type 0) → Type 0
-OnLineError Memory Holds = ⊤
+OnLineError (Memory error) Holds = ⊤
 OnLineError (Line error) Holds = Holds error

@@ -1,6 +1,6 @@
 //! The source and the sink of a run.
 
-ghost use Rattle.std.specs.Prelude.{◌≡◌, ℕ, ◌≤◌, Bool, List, None, Option, length, IfOk};
+ghost use Rattle.std.specs.Prelude.{◌≡◌, ℕ, ◌≤◌, Bool, List, None, Option, length, IfOk, ok_or};
 ghost use Rattle.std.specs.Io.KnownBytes.{ReadConsumes, WriteAppends};
 ghost use Rattle.font_lines.specs.Device.{failed_after};
 
@@ -13,6 +13,17 @@ pub use from_write::FromWrite;
 /// A read or a write failed. The device remembers it.
 #[derive(Drop)]
 pub struct Failed;
+
+// Returns the number that a call gave, or `Failed` if it gave none, which `failed` then remembers.
+fn kept(given: Option<usize>, failed: &mut bool) -> Result<usize, Failed>
+    ensures same { result ≡ ok_or given (record {}) }
+    ensures flag { failed.new ≡ failed_after failed.old result }
+{
+    if given.is_none() {
+        *failed = true;
+    }
+    given.ok_or(Failed)
+}
 
 /// A source of bytes.
 pub trait Source {

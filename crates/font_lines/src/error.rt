@@ -64,17 +64,17 @@ impl From<DecimalFault> for LineError {
 pub enum CommandError {
     /// Out of memory for the answer.
     #[error("memory")]
-    Memory,
+    Memory(AllocError),
     /// The line has an error.
     #[error("{0}")]
     Line(LineError),
 }
 
 impl From<AllocError> for CommandError {
-    ghost from_gives = { λ _ reason. reason ≡ CommandError.Memory };
+    ghost from_gives = { λ error reason. reason ≡ CommandError.Memory error };
 
-    fn from(_error: AllocError) -> CommandError {
-        CommandError::Memory
+    fn from(error: AllocError) -> CommandError {
+        CommandError::Memory(error)
     }
 }
 

@@ -2,11 +2,12 @@
 
 ghost use Rattle.std.specs.Prelude.{◌≡◌, Ok, Err, true, false, IfOk, IfErr, OnOk, OnErr};
 ghost use Rattle.std.specs.Io.KnownBytes.{Appends, Keeps};
+ghost use Rattle.font_lines.specs.declared.serve.ServeFault.{ServeFault};
 ghost use Rattle.font_lines.specs.Serve.{Serves, ServesInPart, ReadsAll, WritesInPart, ReadFails};
 
 use crate::answers::answers;
 use crate::device::{Sink, Source};
-use std::alloc::Allocator;
+use std::alloc::{AllocError, Allocator};
 use thiserror::Error;
 
 /// Why a run failed.
@@ -21,6 +22,14 @@ pub enum ServeFault {
     /// A write failed.
     #[error("write")]
     Write = 3,
+}
+
+impl From<AllocError> for ServeFault {
+    ghost from_gives = { λ _ fault. fault ≡ ServeFault.Memory };
+
+    fn from(_error: AllocError) -> ServeFault {
+        ServeFault::Memory
+    }
 }
 
 // The size of a read.
@@ -60,9 +69,7 @@ pub fn serve<A: Allocator + Copy, S: Source, K: Sink>(
         → (S.failed source.new ≡ false) × (K.failed sink.new ≡ true) }
 {
     let input = read_all(alloc, source)?;
-    let Ok(output) = answers(alloc, &input) else {
-        return Err(ServeFault::Memory);
-    };
+    let output = answers(alloc, &input)?;
     write_all(sink, &output)
 }
 
@@ -83,9 +90,7 @@ fn read_all<A: Allocator, S: Source>(alloc: A, source: &mut S) -> Result<Vec<u8,
         if count == 0 {
             return Ok(input);
         }
-        if input.extend_from_slice(&block[..count]).is_err() {
-            return Err(ServeFault::Memory);
-        }
+        input.extend_from_slice(&block[..count])?;
     }
 }
 

@@ -2,7 +2,7 @@
 
 ghost use Rattle.std.specs.Prelude.{◌≡◌, false};
 
-use super::{Failed, Source};
+use super::{Failed, Source, kept};
 use std::io::Read;
 
 /// A source over a reader. Each error of the reader is a failure, an interrupted call too.
@@ -31,13 +31,7 @@ impl<R: Read> Source for FromRead<R> {
     ghost failed = { λ source. source.failed };
 
     fn read(&mut self, buf: &mut [u8]) -> Result<usize, Failed> {
-        match self.reader.read(buf) {
-            Ok(n) => Ok(n),
-            Err(_) => {
-                self.failed = true;
-                Err(Failed)
-            }
-        }
+        kept(self.reader.read(buf).ok(), &mut self.failed)
     }
 
     fn has_failed(&self) -> bool {

@@ -1,6 +1,7 @@
 //! What no clause says: the texts and numbers of the errors of lines.
 
 use font_lines::error::{CommandError, LineError};
+use std::alloc::AllocError;
 use std::test::Fail;
 
 #[test]
@@ -24,6 +25,7 @@ fn error_texts(rt: HostRuntime) -> Result<(), Fail> {
             "{number}: {text}"
         );
     }
-    assert!(rt; CommandError::Memory.to_string(rt.alloc())?.as_str() == "memory");
+    let memory = CommandError::Memory(AllocError);
+    assert!(rt; memory.to_string(rt.alloc())?.as_str() == "memory");
     Ok(())
 }

@@ -28,7 +28,7 @@ fn append_answer<A: Allocator>(
 ) -> Result<(), AllocError> {
     match append_text(alloc, line, output) {
         Ok(()) => Ok(()),
-        Err(CommandError::Memory) => Err(AllocError),
+        Err(CommandError::Memory(error)) => Err(error),
         Err(CommandError::Line(error)) => output.extend_from_slice(error.answer()),
     }
 }

@@ -13,6 +13,14 @@ pub use from_write::FromWrite;
 /// A read or a write failed. The device remembers it.
 pub struct Failed;
 
+// Returns the number that a call gave, or `Failed` if it gave none, which `failed` then remembers.
+fn kept(given: Option<usize>, failed: &mut bool) -> Result<usize, Failed> {
+    if given.is_none() {
+        *failed = true;
+    }
+    given.ok_or(Failed)
+}
+
 /// A source of bytes.
 pub trait Source {
     /// Reads into the front of `buf`, and returns the number of bytes read: 0 for a nonempty `buf`

@@ -66,7 +66,7 @@ impl From<DecimalFault> for LineError {
 #[derive(Clone, Copy, Debug)]
 pub enum CommandError {
     /// Out of memory for the answer.
-    Memory,
+    Memory(AllocError),
     /// The line has an error.
     Line(LineError),
 }
@@ -76,15 +76,15 @@ impl core::error::Error for CommandError {}
 impl core::fmt::Display for CommandError {
     fn fmt(&self, f: &mut core::fmt::Formatter<'_>) -> core::fmt::Result {
         match self {
-            Self::Memory => write!(f, "memory"),
+            Self::Memory(..) => write!(f, "memory"),
             Self::Line(field_0, ..) => write!(f, "{field_0}"),
         }
     }
 }
 
 impl From<AllocError> for CommandError {
-    fn from(_error: AllocError) -> CommandError {
-        CommandError::Memory
+    fn from(error: AllocError) -> CommandError {
+        CommandError::Memory(error)
     }
 }
 

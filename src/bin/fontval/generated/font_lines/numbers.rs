@@ -52,7 +52,7 @@ pub fn terms<A: Allocator>(
     while let Some(scalar) = words.next() {
         let delta = words.next().ok_or(LineError::WordCount)?;
         match term(scalar, delta) {
-            Ok(term) => terms.push(term).map_err(|_| CommandError::Memory)?,
+            Ok(term) => terms.extend_from_slice(&[term])?,
             Err(error) => return Err(error_if_even(&words, error).into()),
         }
     }

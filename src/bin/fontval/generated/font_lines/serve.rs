@@ -6,7 +6,7 @@ use crate::host::*;
 
 use crate::font_lines::answers::answers;
 use crate::font_lines::device::{Sink, Source};
-use crate::host::alloc::Allocator;
+use crate::host::alloc::{AllocError, Allocator};
 
 /// Why a run failed.
 #[derive(Debug)]
@@ -31,6 +31,12 @@ impl core::fmt::Display for ServeFault {
     }
 }
 
+impl From<AllocError> for ServeFault {
+    fn from(_error: AllocError) -> ServeFault {
+        ServeFault::Memory
+    }
+}
+
 // The size of a read.
 const READ_SIZE: usize = 16384;
 
@@ -45,9 +51,7 @@ pub fn serve<A: Allocator + Copy, S: Source, K: Sink>(
     sink: &mut K,
 ) -> Result<(), ServeFault> {
     let input = read_all(alloc, source)?;
-    let Ok(output) = answers(alloc, &input) else {
-        return Err(ServeFault::Memory);
-    };
+    let output = answers(alloc, &input)?;
     write_all(sink, &output)
 }
 
@@ -62,9 +66,7 @@ fn read_all<A: Allocator, S: Source>(alloc: A, source: &mut S) -> Result<Vec<u8,
         if count == 0 {
             return Ok(input);
         }
-        if input.extend_from_slice(&block[..count]).is_err() {
-            return Err(ServeFault::Memory);
-        }
+        input.extend_from_slice(&block[..count])?;
     }
 }
 

@@ -4,7 +4,7 @@
 
 use crate::host::*;
 
-use super::{Failed, Source};
+use super::{Failed, Source, kept};
 use crate::host::io::Read;
 
 /// A source over a reader. Each error of the reader is a failure, an interrupted call too.
@@ -22,13 +22,7 @@ impl<R: Read> FromRead<R> {
 
 impl<R: Read> Source for FromRead<R> {
     fn read(&mut self, buf: &mut [u8]) -> Result<usize, Failed> {
-        match self.reader.read(buf) {
-            Ok(n) => Ok(n),
-            Err(_) => {
-                self.failed = true;
-                Err(Failed)
-            }
-        }
+        kept(self.reader.read(buf).ok(), &mut self.failed)
     }
 
     fn has_failed(&self) -> bool {

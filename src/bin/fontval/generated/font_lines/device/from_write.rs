@@ -4,7 +4,7 @@
 
 use crate::host::*;
 
-use super::{Failed, Sink};
+use super::{Failed, Sink, kept};
 use crate::host::io::Write;
 
 /// A sink over a writer. Each error of the writer is a failure, an interrupted call too, and so
@@ -23,13 +23,8 @@ impl<W: Write> FromWrite<W> {
 
 impl<W: Write> Sink for FromWrite<W> {
     fn write(&mut self, buf: &[u8]) -> Result<usize, Failed> {
-        match self.writer.write(buf) {
-            Ok(n) if n > 0 || buf.is_empty() => Ok(n),
-            _ => {
-                self.failed = true;
-                Err(Failed)
-            }
-        }
+        let given = self.writer.write(buf).ok();
+        kept(given.filter(|n| *n > 0 || buf.is_empty()), &mut self.failed)
     }
 
     fn has_failed(&self) -> bool {
