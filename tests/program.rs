@@ -63,14 +63,26 @@ fn stored_lines_in_parts() {
     }
 }
 
-// A line of more than 64 KB, the byte 0x04 at the end, and an argument, which is not read.
+// A line of more than 64 KB, and the byte 0x04 at the end.
 #[test]
-fn long_lines_and_arguments() {
+fn long_lines() {
     let line = format!("sum{}\nint8 04\nuint8 64\n\x04", " 1 1".repeat(20_000));
     assert_eq!(answers("long-line", line.as_bytes()), b"20000\n4\n100\nerror 1\n");
-    let mut command = runner::command(Path::new(env!("CARGO_BIN_EXE_fontval")));
-    let run = command.arg("x").stdin(Stdio::null()).output().unwrap();
-    assert!(run.status.success() && run.stdout.is_empty() && run.stderr.is_empty());
+}
+
+// An argument is refused before a line is read, also one of no bytes.
+#[test]
+fn arguments() {
+    for argument in ["--help", "x", ""] {
+        let mut command = runner::command(Path::new(env!("CARGO_BIN_EXE_fontval")));
+        let run = command.arg(argument).stdin(Stdio::null()).output().unwrap();
+        assert_eq!((run.status.code(), run.stdout.len()), (Some(2), 0), "{argument}");
+        let told = String::from_utf8(run.stderr).unwrap();
+        assert_eq!(
+            (told.lines().count(), told.starts_with("fontval: takes no arguments.")),
+            (1, true)
+        );
+    }
 }
 
 #[test]

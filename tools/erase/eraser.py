@@ -178,7 +178,7 @@ class Eraser:
         elif name == "crate":
             self.put(at + 2, f"{self.of.name}::")
         # Rattle has these in another form, and the program has its own.
-        elif name == "std" and target == "program" and after in ("alloc", "io"):
+        elif name == "std" and target == "program" and after in ("alloc", "env", "io"):
             self.replace(at, "crate::host")
         elif name == "std" and target != "program":
             self.replace(at, "crate::rattle" if target == "tests" else "core")

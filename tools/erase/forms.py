@@ -19,7 +19,7 @@ LISTS = {
     "FACTS": "each_is_byte(self) each_is_byte(slice) raw.as_slice() each_is_byte(raw.as_slice()) "
     "font_base::BeByteArray::as_slice(&self.0)",
     # The modules of `std`.
-    "STD": "alloc cmp error fmt hash io iter marker ops process slice str",
+    "STD": "alloc cmp env error fmt hash io iter marker ops process slice str",
 }
 
 # Names that no kept text has: of what is left out or written, and what Rust has otherwise.

@@ -2,6 +2,7 @@
 //! Rattle has it in scope.
 
 pub mod alloc;
+pub mod env;
 pub mod hex;
 pub mod io;
 
