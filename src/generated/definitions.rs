@@ -2431,8 +2431,11 @@ pub mod font_types {
     ///
     /// In the order of `crates/font_types/specs/Delta.antt`: [`total`](mod@Delta::total), [`term_product`](mod@Delta::term_product), [`exact_sum`](mod@Delta::exact_sum), [`scaled`](mod@Delta::scaled).
     pub mod Delta {
+        use crate::definitions::font_base::Wrap::half_range;
+        use crate::definitions::font_decimal::Near::signed;
         use crate::definitions::font_fixed::Fixed::Fixed;
         use crate::definitions::font_fixed::Fixed::fixed_bits;
+        use crate::definitions::font_fixed::Operations::differ_in_sign;
         use crate::definitions::font_fixed::Operations::rounded_mul_div;
         /// the exact sum of an integer for each element of a list
         ///
@@ -2460,13 +2463,15 @@ pub mod font_types {
         /// [`Fixed`], [`total`], [`term_product`]
         pub mod exact_sum {}
 
-        /// the raw value of a number that is scaled by a / c and rounded, for c other than 0
+        /// the raw value of a number that is scaled by a / c and rounded; if c is 0, the greatest, with the sign of the product
         ///
         /// ```text
         /// abbrev scaled : ℤ → ℤ → Fixed → ℤ
-        /// scaled a c x = rounded_mul_div (fixed_bits x) a c
+        /// scaled a (pos zero) x = signed (differ_in_sign (fixed_bits x) a) (half_range 32 - 1)
+        /// scaled a (pos (suc c)) x = rounded_mul_div (fixed_bits x) a (pos (suc c))
+        /// scaled a (negsuc c) x = rounded_mul_div (fixed_bits x) a (negsuc c)
         /// ```
-        /// [`Fixed`], [`rounded_mul_div`], [`fixed_bits`]
+        /// [`Fixed`], [`signed`], [`differ_in_sign`], [`fixed_bits`], [`half_range`], [`rounded_mul_div`]
         pub mod scaled {}
     }
 

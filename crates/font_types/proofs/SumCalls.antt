@@ -1,13 +1,14 @@
 -- Sums that wrap at each step: each is the exact sum, wrapped.
 use Rattle.std.proofs.Common.{◌≡◌, ◌∙◌, sym, ap, ℕ, ◌+◌, ◌<◌, List, length, take, get_or, ℤ, pos, ◌+ℤ◌, lit<, arith}
 use Rattle.std.proofs.Common.{◌≤◌, ◌++◌, ◌*ℤ◌, ◌%◌, ◌^◌, w16, w32, SFits, to_z, of_z, refl, lit≤, unsigned_abs, zero}
-use Rattle.std.proofs.Common.{suc, negsuc, ◌-ℤ◌, ◌*◌, ◌<ℤ◌}
+use Rattle.std.proofs.Common.{suc, negsuc, ◌-ℤ◌, ◌*◌, ◌<ℤ◌, ◌-◌, Bool, true, false}
 use Rattle.std.proofs.lemmas.Int.{ints, wrapping_add_onto}
 use Rattle.std.proofs.{Math.IntN.+ℤ_assoc, Math.Nat.mul-le-mul, lemmas.List.take_all, lemmas.List.Sums.fold_more}
 use Rattle.std.specs.Int.{w128}
 use Rattle.font_base.proofs.{Moved.bytes_moved, Widths.int_wrap-wrap}
-use Rattle.font_base.specs.Wrap.{wrap, FitsBits}
+use Rattle.font_base.specs.Wrap.{wrap, FitsBits, half_range}
 use Rattle.font_base.specs.Wrap.Laws.{wrap-add_left, wrap-add_right, wrap-fits, wrap-wrap}
+use Rattle.font_decimal.specs.Near.{signed}
 use Rattle.font_fixed.proofs.{Calls.fits_16, Wrapped.wrapping_add-wrap, FixedCalls.fixed_calls}
 use Rattle.font_fixed.specs.Operations.{IsMulDiv, rounded_mul_div}
 use Rattle.font_fixed.specs.{Fixed.Fixed, Fixed.fixed_bits, F26Dot6.f26dot6_bits, F48Dot16.f48dot16_bits}
@@ -174,19 +175,28 @@ pub ruleset sum_calls_32 = (none_32, running_32, sum_onto_32)
 
 -- ---- numbers that are scaled one by one
 
-scaled_once : (w : ℕ) (x a c r : ℤ) → pos 0 <ℤ c → IsMulDiv w x a c r → r ≡ wrap w (rounded_mul_div x a c)
-scaled_once w x a (pos zero) r some given = grind arith
-scaled_once w x a (pos (suc c)) r some given = given.is
-scaled_once w x a (negsuc c) r some given = grind arith
+signed_fits_32 : (negative : Bool) → FitsBits 32 (signed negative (half_range 32 - 1))
+signed_fits_32 false = record { low = omega (arith, ints); high = omega (arith, ints) }
+signed_fits_32 true = record { low = omega (arith, ints); high = omega (arith, ints) }
 
-pub one_more_scaled : (a c : ℤ) (xs : List Fixed) (i : ℕ) (d : Fixed) (sum one next : ℤ) → i < length xs → pos 0 <ℤ c
+scaled_once : (x : Fixed) (a c r : ℤ) → IsMulDiv 32 (fixed_bits x) a c r → r ≡ wrap 32 (scaled a c x)
+scaled_once x a (pos zero) r given = given ∙ sym (wrap-fits 32 _ (lit< tt) (signed_fits_32 _))
+scaled_once x a (pos (suc c)) r given = given.is
+scaled_once x a (negsuc c) r given = given.is
+
+pub one_more_scaled : (a c : ℤ) (xs : List Fixed) (i : ℕ) (d : Fixed) (sum one next : ℤ) → i < length xs
     → sum ≡ wrap 32 (total (scaled a c) (take i xs)) → IsMulDiv 32 (fixed_bits (get_or xs i d)) a c one
     → next ≡ wrap 32 (sum +ℤ one) → next ≡ wrap 32 (total (scaled a c) (take (i + 1) xs))
-one_more_scaled a c xs i d sum one next within some so_far by is =
-    let kept = scaled_once 32 (fixed_bits (get_or xs i d)) a c one some by in
+one_more_scaled a c xs i d sum one next within so_far by is =
+    let kept = scaled_once (get_or xs i d) a c one by in
     let more = running_total 32 (scaled a c) xs i d (lit< tt) within in
     let split = wrap-add_right 32 (wrap 32 (total (scaled a c) (take i xs))) (scaled a c (get_or xs i d)) (lit< tt) in
     is ∙ rw (so_far, kept) (split ∙ more)
+
+divided_once : (x a c r : ℤ) → pos 0 <ℤ c → IsMulDiv 32 x a c r → r ≡ wrap 32 (rounded_mul_div x a c)
+divided_once x a (pos zero) r some given = absurd (omega (arith, ints, some))
+divided_once x a (pos (suc c)) r some given = given.is
+divided_once x a (negsuc c) r some given = given.is
 
 -- the sum of products with one factor
 times_total : (a : ℤ) (xs : List Fixed) → total (λ x. fixed_bits x *ℤ a) xs ≡ (total fixed_bits xs *ℤ a)
@@ -194,8 +204,9 @@ times_total a xs = total-times fixed_bits a xs
 
 pub scaled_close : (a c : ℤ) (xs : List Fixed) → pos 0 <ℤ c
     → 2 * unsigned_abs (total (scaled a c) xs -ℤ rounded_mul_div (total fixed_bits xs) a c) ≤ length xs + 1
-scaled_close a (pos c) xs some =
-    rw (sym (times_total a xs)) (total-near (λ x. fixed_bits x *ℤ a) c xs (omega (arith, ints, some)))
+scaled_close a (pos zero) xs some = absurd (omega (arith, ints, some))
+scaled_close a (pos (suc c)) xs some =
+    rw (sym (times_total a xs)) (total-near (λ x. fixed_bits x *ℤ a) (suc c) xs (omega arith))
 scaled_close a (negsuc c) xs some = absurd (omega (arith, ints, some))
 
 -- the same of the results of calls
@@ -206,7 +217,7 @@ pub scaled_sums_close : (a c : ℤ) (xs : List Fixed) (r sum s : ℤ) → pos 0 
 scaled_sums_close a c xs r sum s some first second third fits_r fits_sum fits_s =
     let kept_r : r ≡ total (scaled a c) xs = first ∙ wrap-fits 32 (total (scaled a c) xs) (lit< tt) fits_r in
     let kept_sum : sum ≡ total fixed_bits xs = second ∙ wrap-fits 32 (total fixed_bits xs) (lit< tt) fits_sum in
-    let once = scaled_once 32 sum a c s some third in
+    let once = divided_once sum a c s some third in
     let kept_s : s ≡ rounded_mul_div (total fixed_bits xs) a c =
     once ∙ ap (λ n. wrap 32 (rounded_mul_div n a c)) kept_sum
     ∙ wrap-fits 32 (rounded_mul_div (total fixed_bits xs) a c) (lit< tt) fits_s in

@@ -4,9 +4,10 @@
 -- `total-permuted`).
 pub mod Laws
 use Rattle.std.specs.Prelude.{ℕ, zero, suc, List, fold, Option, Some, None, option_map, if◌then◌else◌, ℤ, pos, ◌+ℤ◌}
-use Rattle.std.specs.Prelude.{◌*ℤ◌}
-use Rattle.font_base.specs.Wrap.{fits_bits}
-use Rattle.font_fixed.specs.{Fixed.Fixed, Fixed.fixed_bits, Operations.rounded_mul_div}
+use Rattle.std.specs.Prelude.{◌*ℤ◌, ◌-◌, negsuc}
+use Rattle.font_base.specs.Wrap.{fits_bits, half_range}
+use Rattle.font_decimal.specs.Near.{signed}
+use Rattle.font_fixed.specs.{Fixed.Fixed, Fixed.fixed_bits, Operations.rounded_mul_div, Operations.differ_in_sign}
 
 -- the exact sum of an integer for each element of a list
 abbrev pub total : {T : Type 0} → (T → ℤ) → List T → ℤ
@@ -33,6 +34,8 @@ sum_in_range terms = if fits_bits 64 (exact_sum terms) then Some (exact_sum term
 abbrev pub varied : ℤ → List (Fixed × ℤ) → Option ℤ
 varied base terms = option_map (λ sum. base *ℤ pos 65536 +ℤ sum) (sum_in_range terms)
 
--- the raw value of a number that is scaled by a / c and rounded, for c other than 0
+-- the raw value of a number that is scaled by a / c and rounded; if c is 0, the greatest, with the sign of the product
 abbrev pub scaled : ℤ → ℤ → Fixed → ℤ
-scaled a c x = rounded_mul_div (fixed_bits x) a c
+scaled a (pos zero) x = signed (differ_in_sign (fixed_bits x) a) (half_range 32 - 1)
+scaled a (pos (suc c)) x = rounded_mul_div (fixed_bits x) a (pos (suc c))
+scaled a (negsuc c) x = rounded_mul_div (fixed_bits x) a (negsuc c)

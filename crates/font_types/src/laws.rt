@@ -34,7 +34,7 @@ pub fn sum_in_parts(first: &[(Fixed, i32)], second: &[(Fixed, i32)]) -> (F48Dot1
 /// If `c` is positive, and neither the sums nor the second result overflow, the two differ by at
 /// most `(n + 1) / 2` raw units, for `n` numbers.
 pub fn scaled_in_parts(numbers: &[Fixed], a: Fixed, c: Fixed) -> (Fixed, Fixed)
-    ensures first { pos 0 <ℤ fixed_bits c → fixed_bits result.0
+    ensures first { fixed_bits result.0
         ≡ wrap 32 (total (scaled (fixed_bits a) (fixed_bits c)) numbers.now) }
     ensures second { IsMulDiv 32 (wrap 32 (total fixed_bits numbers.now)) (fixed_bits a)
         (fixed_bits c) (fixed_bits result.1) }
@@ -52,8 +52,8 @@ pub fn scaled_in_parts(numbers: &[Fixed], a: Fixed, c: Fixed) -> (Fixed, Fixed)
 // Returns the sum of numbers that are each scaled.
 #[tactic(auto, using(crate::proofs::SumCalls::none_32))]
 fn scaled_sum(numbers: &[Fixed], a: Fixed, c: Fixed) -> Fixed
-    ensures { pos 0 <ℤ fixed_bits c
-        → fixed_bits result ≡ wrap 32 (total (scaled (fixed_bits a) (fixed_bits c)) numbers.now) }
+    ensures { fixed_bits result
+        ≡ wrap 32 (total (scaled (fixed_bits a) (fixed_bits c)) numbers.now) }
 {
     let mut sum = Fixed::ZERO;
     for number in numbers {

@@ -59,7 +59,7 @@ pub fn sum_in_parts(first: &[(Fixed, i32)], second: &[(Fixed, i32)]) -> (F48Dot1
 /// <details><summary>Contract</summary>
 ///
 /// ```text
-/// ensures first { pos 0 <ℤ fixed_bits c → fixed_bits result.0
+/// ensures first { fixed_bits result.0
 ///     ≡ wrap 32 (total (scaled (fixed_bits a) (fixed_bits c)) numbers.now) }
 /// ensures second { IsMulDiv 32 (wrap 32 (total fixed_bits numbers.now)) (fixed_bits a)
 ///     (fixed_bits c) (fixed_bits result.1) }

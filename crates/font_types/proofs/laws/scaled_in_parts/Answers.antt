@@ -7,6 +7,6 @@ returns c = record {
   first = c.scaled_sum.ensures;
   second = rw c.plain_sum.ensures at c.mul_div.ensures;
   close = λ some fits_r fits_sum fits_s. scaled_sums_close (fixed_bits c.args.a) (fixed_bits c.args.c)
-      c.args.numbers.now _ _ _ some (c.scaled_sum.ensures some) c.plain_sum.ensures c.mul_div.ensures fits_r fits_sum
+      c.args.numbers.now _ _ _ some c.scaled_sum.ensures c.plain_sum.ensures c.mul_div.ensures fits_r fits_sum
       fits_s;
 }
