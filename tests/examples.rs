@@ -14,7 +14,9 @@ use font_types_proved::{F2Dot14, F48Dot16, Fixed, GlyphId16, Tag, UfWord};
 use font_variations_proved::advances::{store_and_set, varied_by};
 use font_variations_proved::delta_sets::{read_delta, set_sum};
 use font_variations_proved::evaluator::segment_map;
+use font_variations_proved::instances::StoreInstance;
 use font_variations_proved::maps::{DeltaSetIndex, read_delta_set_index};
+use font_variations_proved::regions::region_scalar;
 use fonts::{MAP, MAPS, at_the_limits, font, font_of, fvar, hvar, hvar_of_two_axes};
 use fonts::{long_axes, of_five_axes, two_axes, words};
 use instance::{advance, all_advances, axes, metrics, normalized};
@@ -521,8 +523,40 @@ fn variations_that_are_refused() {
     let mut of_seven = store.to_vec();
     of_seven[7] = 7;
     assert_eq!(varied_by(UfWord::new(500), &of_seven, set, &peak), None);
+    // The offset of the regions, or of the subtable, is null.
+    for offset in [2, 8] {
+        let mut null = store.to_vec();
+        null[offset..offset + 4].fill(0);
+        assert_eq!(varied_by(UfWord::new(500), &null, set, &peak), None);
+        let mut scalars = [Fixed::ZERO; 9];
+        let instance = StoreInstance::new(&null, &peak, &mut scalars);
+        assert_eq!(instance.and_then(|instance| instance.varied(UfWord::new(500), set)), None);
+    }
     assert!(store_and_set(&[0, 1, 0, 0, 0, 0, 0, 8, 0, 0, 0], glyph).is_none());
     assert!(segment_map(&[0, 1, 0, 0, 0, 0, 0, 0, 0, 0], 0).is_none());
+}
+
+// The scalar of an axis that is far from the first.
+#[test]
+fn regions_of_many_axes() {
+    for axes in [255, 256, 4096, 32_767, 32_768, 65_535] {
+        let mut list = words(&[axes, 1]);
+        list.resize(4 + 6 * usize::from(axes) - 6, 0);
+        list.extend(words(&[0, 0x4000, 0x4000]));
+        let mut coordinates = vec![F2Dot14::ZERO; axes.into()];
+        *coordinates.last_mut().unwrap() = F2Dot14::from_bits(0x1000);
+        let scalar = Fixed::from_bits(0x4000);
+        assert_eq!(region_scalar(&list, 0, &coordinates), Some(scalar), "{axes}");
+        let subtable = words(&[1, 1, 1, 0, 400]);
+        let store = [&words(&[1, 0, 12, 1])[..], &(12 + list.len() as u32).to_be_bytes()].concat();
+        let store = [store, list, subtable].concat();
+        let mut scalars = [Fixed::ZERO; 1];
+        let instance = StoreInstance::new(&store, &coordinates, &mut scalars).unwrap();
+        let set = DeltaSetIndex { outer: 0, inner: 0 };
+        assert_eq!(instance.scalar(0), Some(scalar), "{axes}");
+        assert_eq!(instance.delta(set), Some(F48Dot16::from_i32(100)), "{axes}");
+        assert_eq!(varied_by(UfWord::new(500), &store, set, &coordinates), Some(UfWord::new(600)));
+    }
 }
 
 #[test]

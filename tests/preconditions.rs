@@ -1,9 +1,10 @@
-//! Calls that break a precondition: they panic or return. Decimals of each allowed number of
-//! fraction bits.
+//! Calls that break a precondition, or the precondition of a callback: they panic or return. Decimals
+//! of each allowed number of fraction bits.
 
 mod exact;
 
 use exact::{Type, read, shortest};
+use font_types_proved::{BoundingBox, Fixed, Matrix, Point, ScalarArray};
 use font_types_proved::{DecimalFault, SampleHeader, Shortest, TableHeader};
 use font_types_proved::{laws, read_decimal, read_decimal_bytes};
 use std::panic::{AssertUnwindSafe, catch_unwind};
@@ -26,7 +27,9 @@ fn printed_with_any_fraction_bits() {
         let near = if is_allowed { 400 } else { 1 };
         for bits in (-near..=near).chain(ends) {
             let text = returned(|| Shortest::new(bits, f).to_string());
-            assert_eq!(text, is_allowed.then(|| shortest(bits.into(), f)), "{bits} {f}");
+            let right = is_allowed.then(|| shortest(bits.into(), f));
+            let both = returned(|| laws::prints_in_order(bits, 0, f).0.to_string());
+            assert_eq!([text, both], [right.clone(), right], "{bits} {f}");
         }
     }
     assert_eq!(Shortest::new(i64::MIN, 0).as_str(), i64::MIN.to_string());
@@ -68,4 +71,27 @@ fn headers_of_any_length() {
         let found = returned(|| SampleHeader::decode(&[7; 9][..len]).a.get());
         assert_eq!(found, (len == 6).then_some(0x707), "{len}");
     }
+}
+
+// A call panics if its callback does, or the operator of an element.
+#[test]
+fn callbacks_and_operators_that_panic() {
+    let point = Point::new(i32::MAX, 1);
+    let refuses = |x: i32| if x == 1 { panic!("refused") } else { x };
+    assert!(returned(|| point.map(refuses)).is_none());
+    let matrix = Matrix::from_elements([Fixed::ONE; 6]);
+    assert!(returned(|| matrix.map(|_| -> Fixed { panic!("refused") })).is_none());
+    let array = ScalarArray::<u16>::new(&[0, 1, 0, 2, 0, 3]).unwrap();
+    assert!(
+        returned(|| array.binary_search_by_key(&2, |_| -> u16 { panic!("refused") })).is_none()
+    );
+    assert!(returned(|| array.binary_search_by(|_| panic!("refused"))).is_none());
+    assert!(returned(|| array.partition_point(|_| panic!("refused"))).is_none());
+    // An overflow panics in a debug build, and wraps in a release build.
+    let kept = if cfg!(debug_assertions) { None } else { Some(i32::MIN) };
+    assert_eq!(returned(|| point + Point::broadcast(1)).map(|sum| sum.x), kept);
+    let (x_min, y_min, x_max, y_max) = (i32::MIN, 0, 1, 2);
+    let sides = BoundingBox { x_min, y_min, x_max, y_max };
+    assert_eq!(returned(|| sides.scale(-1)).map(|sides| sides.x_min), kept);
+    assert!(returned(|| point / Point::broadcast(0)).is_none());
 }
