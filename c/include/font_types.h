@@ -73,9 +73,18 @@
 #define FTY_API_CONST
 #define FTY_API_MUST_USE
 #endif
-/* A function of its arguments alone, and one in C. */
+/* A function of its arguments alone. */
 #define FTY_API_PURE FTY_API_MUST_USE FTY_API_CONST
-#define FTY_API_INLINE static inline FTY_API_MUST_USE
+/* One in C, which C++14 also evaluates in a constant expression; one that returns a value; and one
+ * that only runs. Static, so that two versions can meet in one program. */
+#if defined(__cplusplus) \
+    && (__cplusplus >= 201402L || (defined(_MSVC_LANG) && _MSVC_LANG >= 201402L))
+#define FTY_API_STATIC static constexpr
+#else
+#define FTY_API_STATIC static inline
+#endif
+#define FTY_API_INLINE FTY_API_STATIC FTY_API_MUST_USE
+#define FTY_API_RUN static inline FTY_API_MUST_USE
 /** @endcond */
 
 #ifdef __cplusplus
@@ -629,12 +638,12 @@ FTY_API_INLINE fty_status fty_write_uint(
 
 /** @cond */
 /* Stores the last two and four bytes of a number. (Not by a loop, which GCC leaves one at -O2.) */
-static inline void fty_api_put_two(uint8_t *at, uint32_t value) FTY_API_NOEXCEPT {
+FTY_API_STATIC void fty_api_put_two(uint8_t *at, uint32_t value) FTY_API_NOEXCEPT {
     at[0] = FTY_API_AS(uint8_t, value >> 8 & 0xFF);
     at[1] = FTY_API_AS(uint8_t, value & 0xFF);
 }
 
-static inline void fty_api_put_four(uint8_t *at, uint32_t value) FTY_API_NOEXCEPT {
+FTY_API_STATIC void fty_api_put_four(uint8_t *at, uint32_t value) FTY_API_NOEXCEPT {
     fty_api_put_two(at, value >> 16);
     fty_api_put_two(at + 2, value);
 }
@@ -687,7 +696,7 @@ FTY_API_INLINE fty_status fty_write_u64(
  * Copies the bytes of a view, also if they overlap those that are written. Fails by
  * FTY_OUT_OF_BOUNDS if the view is absent, or unless all of them are within the array.
  */
-FTY_API_INLINE fty_status fty_write_bytes(
+FTY_API_RUN fty_status fty_write_bytes(
     uint8_t *bytes, size_t length, size_t offset, fty_view view) FTY_API_NOEXCEPT {
     const size_t count = view.length;
     if (view.bytes == FTY_API_NULL || count > length || offset > length - count)
@@ -758,7 +767,7 @@ FTY_API_INLINE fty_status fty_round_i64(
 
 /** @cond */
 /* A number of two's complement, by its bits and the weight of its sign. */
-static inline int32_t fty_api_signed(uint32_t bits, uint32_t sign) FTY_API_NOEXCEPT {
+FTY_API_INLINE int32_t fty_api_signed(uint32_t bits, uint32_t sign) FTY_API_NOEXCEPT {
     return FTY_API_AS(int32_t, bits ^ sign) - FTY_API_AS(int32_t, sign);
 }
 /** @endcond */
@@ -843,55 +852,55 @@ FTY_API_INLINE size_t fty_delta_set_length(
 /* ---- the functions of three formats, with their types and fraction bits ---- */
 
 /** fty_parse_i32 of 16.16. */
-FTY_API_INLINE fty_status fty_fixed_parse(
+FTY_API_RUN fty_status fty_fixed_parse(
     const char *text, size_t length, int32_t *bits) FTY_API_NOEXCEPT {
     return fty_parse_i32(text, length, FTY_FIXED_BITS, bits);
 }
 
 /** fty_format of 16.16. */
-FTY_API_INLINE fty_status fty_fixed_format(
+FTY_API_RUN fty_status fty_fixed_format(
     int32_t bits, char *out, size_t room, size_t *length) FTY_API_NOEXCEPT {
     return fty_format(bits, FTY_FIXED_BITS, out, room, length);
 }
 
 /** fty_format_padded of 16.16. */
-FTY_API_INLINE fty_status fty_fixed_format_padded(
+FTY_API_RUN fty_status fty_fixed_format_padded(
     int32_t bits, const fty_pad *pad, char *out, size_t room, size_t *length) FTY_API_NOEXCEPT {
     return fty_format_padded(bits, FTY_FIXED_BITS, pad, out, room, length);
 }
 
 /** fty_parse_i16 of 2.14. */
-FTY_API_INLINE fty_status fty_f2dot14_parse(
+FTY_API_RUN fty_status fty_f2dot14_parse(
     const char *text, size_t length, int16_t *bits) FTY_API_NOEXCEPT {
     return fty_parse_i16(text, length, FTY_F2DOT14_BITS, bits);
 }
 
 /** fty_format of 2.14. */
-FTY_API_INLINE fty_status fty_f2dot14_format(
+FTY_API_RUN fty_status fty_f2dot14_format(
     int16_t bits, char *out, size_t room, size_t *length) FTY_API_NOEXCEPT {
     return fty_format(bits, FTY_F2DOT14_BITS, out, room, length);
 }
 
 /** fty_format_padded of 2.14. */
-FTY_API_INLINE fty_status fty_f2dot14_format_padded(
+FTY_API_RUN fty_status fty_f2dot14_format_padded(
     int16_t bits, const fty_pad *pad, char *out, size_t room, size_t *length) FTY_API_NOEXCEPT {
     return fty_format_padded(bits, FTY_F2DOT14_BITS, pad, out, room, length);
 }
 
 /** fty_parse_i32 of 26.6. */
-FTY_API_INLINE fty_status fty_f26dot6_parse(
+FTY_API_RUN fty_status fty_f26dot6_parse(
     const char *text, size_t length, int32_t *bits) FTY_API_NOEXCEPT {
     return fty_parse_i32(text, length, FTY_F26DOT6_BITS, bits);
 }
 
 /** fty_format of 26.6. */
-FTY_API_INLINE fty_status fty_f26dot6_format(
+FTY_API_RUN fty_status fty_f26dot6_format(
     int32_t bits, char *out, size_t room, size_t *length) FTY_API_NOEXCEPT {
     return fty_format(bits, FTY_F26DOT6_BITS, out, room, length);
 }
 
 /** fty_format_padded of 26.6. */
-FTY_API_INLINE fty_status fty_f26dot6_format_padded(
+FTY_API_RUN fty_status fty_f26dot6_format_padded(
     int32_t bits, const fty_pad *pad, char *out, size_t room, size_t *length) FTY_API_NOEXCEPT {
     return fty_format_padded(bits, FTY_F26DOT6_BITS, pad, out, room, length);
 }
@@ -938,7 +947,9 @@ FTY_API_ASSERT(offsetof(fty_view, length) == sizeof(const uint8_t *));
 #undef FTY_API_CONST
 #undef FTY_API_MUST_USE
 #undef FTY_API_PURE
+#undef FTY_API_STATIC
 #undef FTY_API_INLINE
+#undef FTY_API_RUN
 /** @endcond */
 
 #endif

@@ -477,6 +477,64 @@ static void macros(void) {
           && pad.zeros == 0);
 }
 
+/* ---- in C++14, constant expressions: all that neither copies nor calls ---- */
+
+#if defined(__cplusplus) && __cplusplus >= 201402L
+#define CONSTANT(FACT) static_assert(FACT, #FACT)
+
+static constexpr uint8_t numbers[] = {0, 0, 0, 4, 0xFF, 0xFE, 0xFD, 0xFC, 0, 0, 0, 5};
+static constexpr fty_view all_bytes = {numbers, sizeof numbers}, four = {numbers + 4, 4};
+
+template <typename T> constexpr T read(fty_status (*reader)(fty_view, size_t, T *)) {
+    T value = 0;
+    return reader(all_bytes, 4, &value) == FTY_OK ? value : T(KEPT);
+}
+
+template <typename T> constexpr T rounded(fty_status (*round)(T, uint32_t, T *), T bits) {
+    T value = 0;
+    return round(bits, 14, &value) == FTY_OK ? value : T(KEPT);
+}
+
+template <typename T> constexpr bool writes(fty_status (*writer)(uint8_t *, size_t, size_t, T)) {
+    uint8_t bytes[8] = {0};
+    return writer(bytes, 8, 0, 1) == FTY_OK && bytes[sizeof(T) - 1] == 1;
+}
+
+CONSTANT(fty_absent().bytes == nullptr && fty_part(all_bytes, 4, 4).bytes == numbers + 4);
+CONSTANT(fty_items(all_bytes, 4, 2, 4).length == 8 && fty_from(all_bytes, 4).length == 8);
+CONSTANT(fty_at_offset16(all_bytes, 2).bytes == numbers + 4 && fty_u8(all_bytes, 12) == 0);
+CONSTANT(fty_at_offset24(all_bytes, 1).length == 8 && fty_at_offset32(all_bytes, 0).length == 8);
+CONSTANT(fty_u8(four, 0) == 0xFF && fty_i8(four, 0) == -1 && fty_u16(four, 0) == 0xFFFE);
+CONSTANT(fty_i16(four, 0) == -2 && fty_u24(four, 0) == 0xFFFEFD && fty_i24(four, 0) == -259);
+CONSTANT(fty_u32(four, 0) == 0xFFFEFDFC && fty_i32(four, 0) == -66052);
+CONSTANT(fty_i64(all_bytes, 4) == read(fty_read_i64) && fty_uint(four, 1, 2) == 0xFEFD);
+CONSTANT(read(fty_read_u8) == 0xFF && read(fty_read_i8) == -1 && read(fty_read_u16) == 0xFFFE);
+CONSTANT(read(fty_read_i16) == -2 && read(fty_read_u24) == 0xFFFEFD);
+CONSTANT(read(fty_read_i24) == -259 && read(fty_read_u32) == 0xFFFEFDFC);
+CONSTANT(read(fty_read_i32) == -66052);
+CONSTANT(rounded<int16_t>(fty_round_i16, 24575) == 16384);
+CONSTANT(rounded(fty_round_i32, 24576) == 32768 && rounded<int64_t>(fty_round_i64, -1) == 0);
+CONSTANT(fty_fixed_to_i32(98304) == 2 && fty_fixed_to_f26dot6(98304) == 96);
+CONSTANT(fty_fixed_to_f2dot14(98304) == 24576 && fty_f26dot6_to_i32(96) == 2);
+CONSTANT(fty_f48dot16_to_i64(98304) == 2 && fty_f2dot30_to_fixed(1 << 29) == 32768);
+CONSTANT(fty_f2dot30_to_f2dot14(1 << 29) == 8192);
+CONSTANT(fty_fixed_add(INT32_MAX, 1) == INT32_MIN && fty_fixed_sub(1, 2) == -1);
+CONSTANT(fty_fixed_from_i32(2) == 131072 && fty_delta_set_length(1, 2) == 3);
+CONSTANT(fty_status_text(FTY_OK)[0] == 'd');
+CONSTANT(writes(fty_write_u8) && writes(fty_write_u16) && writes(fty_write_u64));
+
+constexpr bool others() {
+    uint8_t bytes[8] = {0};
+    uint32_t value = 0;
+    int32_t fixed = 0;
+    return fty_write_u24(bytes, 8, 0, 0x102) == FTY_OK && fty_write_u32(bytes, 8, 4, 3) == FTY_OK
+           && fty_write_uint(bytes, 8, 3, 1, 9) == FTY_OK && bytes[2] == 2 && bytes[7] == 3
+           && fty_read_uint(all_bytes, 4, 2, &value) == FTY_OK && value == 0xFFFE
+           && fty_f48dot16_to_fixed(7, &fixed) == FTY_OK && fixed == 7;
+}
+CONSTANT(others());
+#endif
+
 #ifndef __CPROVER__
 #define OF(NAME) {#NAME, NAME}
 static const struct {

@@ -27,6 +27,16 @@ diff <(echo "$in_c") <(echo "$in_rust")
 calls=$(cc -E -Iinclude tests/header.c | awk '/^# /{own = $3 == "\"tests/header.c\""} own' | names)
 [[ -z $(comm -23 <(echo "$inline") <(echo "$calls")) ]]
 
+# Those that C++14 evaluates are in header.c's constant expressions.
+calling=$(printf '%s\n' fty_{fixed,f2dot14,f26dot6}_{parse,format,format_padded} | sort)
+constants=$(c++ -std=c++14 -x c++ -E -P include/font_types.h | tr '\n' ' ' |
+    grep -oE '\bconstexpr [^;{}]*\) noexcept *\{' | grep -oE '\bfty_[a-z0-9_]+\(' |
+    grep -v '^fty_api_' | names)
+run_only=$(echo "$calling"$'\n'fty_write_bytes | sort)
+[[ $constants == $(comm -23 <(echo "$inline") <(echo "$run_only")) ]]
+[[ -z $(comm -23 <(echo "$constants") \
+    <(sed -n '/ in C++14, constant/,/^#endif/p' tests/header.c | names)) ]]
+
 # Each function is noexcept, and each but fty_matrix_images warns of a result that is ignored.
 [[ $(grep -o '\bfty_[a-z0-9_]*(' <<<"$text" | grep -v '^fty_api_' | names) == \
     $(sort -u <<<"$declared"$'\n'"$inline") ]]
