@@ -7,10 +7,8 @@
  * Each function that the library exports, in the first part below, has a contract that is
  * proved; its comment states it. The static inline functions in the second part are C. What
  * they return and write is proved by CBMC, a bounded model checker, for every argument and
- * every array of up to 2^48 bytes, and that they touch nothing beyond it. (Of fty_items: for
- * items of 0, 1, 2, 4, 8, 16 and 256 bytes; of 3, 6 and 12 bytes in views of less than 4 GB;
- * and of any size in views of up to 31 bytes. Of fty_write_bytes: for views of up to 3 bytes,
- * and within one array if that has up to 31.) That a compiler reads them as CBMC does is tested.
+ * every array of up to 2^48 bytes, and that they touch nothing beyond it. That a compiler
+ * reads them as CBMC does is tested.
  *
  * A number is a raw value with a number of fraction bits f: the int32_t 98304 is
  * 98304 / 2^16 = 1.5 in 16.16, for which f is 16. f is from 6 to 30, and at most the
@@ -59,19 +57,20 @@
 #define FTY_API_NOEXCEPT noexcept
 #define FTY_API_NULL nullptr
 #define FTY_API_AS(TYPE, VALUE) static_cast<TYPE>(VALUE)
-#define FTY_API_ADDRESS(POINTER) reinterpret_cast<uintptr_t>(POINTER)
 #else
 #define FTY_API_NOEXCEPT
 #define FTY_API_NULL NULL
 #define FTY_API_AS(TYPE, VALUE) ((TYPE)(VALUE))
-#define FTY_API_ADDRESS(POINTER) ((uintptr_t)(POINTER))
 #endif
 #if defined(__GNUC__) || defined(__clang__)
 #define FTY_API_CONST __attribute__((const))
 #define FTY_API_MUST_USE __attribute__((warn_unused_result))
+#define FTY_API_MOVE __builtin_memmove /* which needs no header */
 #else
+#include <string.h>
 #define FTY_API_CONST
 #define FTY_API_MUST_USE
+#define FTY_API_MOVE memmove
 #endif
 /* A function of its arguments alone. */
 #define FTY_API_PURE FTY_API_MUST_USE FTY_API_CONST
@@ -189,9 +188,6 @@ FTY_API_MUST_USE fty_status fty_format_padded(
 
 /* ---- products ---- */
 
-/** x * y in 16.16, half away from zero; wraps. */
-FTY_API_PURE int32_t fty_fixed_mul(int32_t x, int32_t y) FTY_API_NOEXCEPT;
-
 /** x / y in 16.16, half away from zero; wraps. If y is 0, INT32_MAX, negated if x is negative. */
 FTY_API_PURE int32_t fty_fixed_div(int32_t x, int32_t y) FTY_API_NOEXCEPT;
 
@@ -200,9 +196,6 @@ FTY_API_PURE int32_t fty_fixed_div(int32_t x, int32_t y) FTY_API_NOEXCEPT;
  * if exactly one of x and a is negative.
  */
 FTY_API_PURE int32_t fty_fixed_mul_div(int32_t x, int32_t a, int32_t c) FTY_API_NOEXCEPT;
-
-/** x * y in 26.6, half away from zero; wraps. */
-FTY_API_PURE int32_t fty_f26dot6_mul(int32_t x, int32_t y) FTY_API_NOEXCEPT;
 
 /** x / y in 26.6, half away from zero; wraps. If y is 0, INT32_MAX, negated if x is negative. */
 FTY_API_PURE int32_t fty_f26dot6_div(int32_t x, int32_t y) FTY_API_NOEXCEPT;
@@ -322,6 +315,71 @@ FTY_API_MUST_USE fty_status fty_tag_to_text(
 
 /* ---- the second part, in C: proved by CBMC ---- */
 
+/* ---- bytes at a pointer, for a caller that knows that they are there; a view checks it ---- */
+
+/** The uint16 of the 2 bytes at a pointer. */
+FTY_API_INLINE uint16_t fty_peek_u16(const uint8_t *at) FTY_API_NOEXCEPT {
+    return FTY_API_AS(uint16_t, at[0] << 8 | at[1]);
+}
+
+/** The int16 of the 2 bytes at a pointer. */
+FTY_API_INLINE int16_t fty_peek_i16(const uint8_t *at) FTY_API_NOEXCEPT {
+    return FTY_API_AS(int16_t, fty_peek_u16(at));
+}
+
+/** The uint24 of the 3 bytes at a pointer. */
+FTY_API_INLINE uint32_t fty_peek_u24(const uint8_t *at) FTY_API_NOEXCEPT {
+    return FTY_API_AS(uint32_t, at[0]) << 16 | fty_peek_u16(at + 1);
+}
+
+/** The int24 of the 3 bytes at a pointer. */
+FTY_API_INLINE int32_t fty_peek_i24(const uint8_t *at) FTY_API_NOEXCEPT {
+    return fty_peek_i16(at) * 256 + at[2];
+}
+
+/** The uint32 of the 4 bytes at a pointer. */
+FTY_API_INLINE uint32_t fty_peek_u32(const uint8_t *at) FTY_API_NOEXCEPT {
+    return FTY_API_AS(uint32_t, at[0]) << 24 | FTY_API_AS(uint32_t, at[1]) << 16
+           | FTY_API_AS(uint32_t, at[2]) << 8 | at[3];
+}
+
+/** The int32 of the 4 bytes at a pointer. */
+FTY_API_INLINE int32_t fty_peek_i32(const uint8_t *at) FTY_API_NOEXCEPT {
+    return FTY_API_AS(int32_t, fty_peek_u32(at));
+}
+
+/** The int64 of the 8 bytes at a pointer. */
+FTY_API_INLINE int64_t fty_peek_i64(const uint8_t *at) FTY_API_NOEXCEPT {
+    return FTY_API_AS(int64_t, FTY_API_AS(uint64_t, at[0]) << 56 | FTY_API_AS(uint64_t, at[1]) << 48
+           | FTY_API_AS(uint64_t, at[2]) << 40 | FTY_API_AS(uint64_t, at[3]) << 32
+           | FTY_API_AS(uint64_t, at[4]) << 24 | FTY_API_AS(uint64_t, at[5]) << 16
+           | FTY_API_AS(uint64_t, at[6]) << 8 | at[7]);
+}
+
+/** Stores a uint16 in the 2 bytes at a pointer. */
+FTY_API_STATIC void fty_poke_u16(uint8_t *at, uint16_t value) FTY_API_NOEXCEPT {
+    at[0] = FTY_API_AS(uint8_t, value >> 8);
+    at[1] = FTY_API_AS(uint8_t, value & 0xFF);
+}
+
+/** Stores a uint24, the low 24 bits of the value, in the 3 bytes at a pointer. */
+FTY_API_STATIC void fty_poke_u24(uint8_t *at, uint32_t value) FTY_API_NOEXCEPT {
+    at[0] = FTY_API_AS(uint8_t, value >> 16 & 0xFF);
+    fty_poke_u16(at + 1, FTY_API_AS(uint16_t, value & 0xFFFF));
+}
+
+/** Stores a uint32 in the 4 bytes at a pointer. */
+FTY_API_STATIC void fty_poke_u32(uint8_t *at, uint32_t value) FTY_API_NOEXCEPT {
+    fty_poke_u16(at, FTY_API_AS(uint16_t, value >> 16));
+    fty_poke_u16(at + 2, FTY_API_AS(uint16_t, value & 0xFFFF));
+}
+
+/** Stores an integer of 64 bits in the 8 bytes at a pointer. */
+FTY_API_STATIC void fty_poke_u64(uint8_t *at, uint64_t value) FTY_API_NOEXCEPT {
+    fty_poke_u32(at, FTY_API_AS(uint32_t, value >> 32));
+    fty_poke_u32(at + 4, FTY_API_AS(uint32_t, value & 0xFFFFFFFF));
+}
+
 /* ---- views: bytes of a font, and big-endian fields at byte offsets in them ---- */
 
 /**
@@ -354,31 +412,6 @@ FTY_API_INLINE fty_view fty_api_view(
     fty_view part = {FTY_API_NULL, length};
     part.bytes = offset == 0 ? view.bytes : view.bytes + offset;
     return part;
-}
-
-/* The number of two, three, four and eight bytes. */
-FTY_API_INLINE uint32_t fty_api_two(const uint8_t *at) FTY_API_NOEXCEPT {
-    return FTY_API_AS(uint32_t, at[0]) << 8 | at[1];
-}
-
-FTY_API_INLINE uint32_t fty_api_three(const uint8_t *at) FTY_API_NOEXCEPT {
-    return fty_api_two(at) << 8 | at[2];
-}
-
-FTY_API_INLINE int32_t fty_api_signed_three(const uint8_t *at) FTY_API_NOEXCEPT {
-    return FTY_API_AS(int16_t, fty_api_two(at)) * 256 + at[2];
-}
-
-FTY_API_INLINE uint32_t fty_api_four(const uint8_t *at) FTY_API_NOEXCEPT {
-    return FTY_API_AS(uint32_t, at[0]) << 24 | FTY_API_AS(uint32_t, at[1]) << 16
-           | FTY_API_AS(uint32_t, at[2]) << 8 | at[3];
-}
-
-FTY_API_INLINE uint64_t fty_api_eight(const uint8_t *at) FTY_API_NOEXCEPT {
-    return FTY_API_AS(uint64_t, at[0]) << 56 | FTY_API_AS(uint64_t, at[1]) << 48
-           | FTY_API_AS(uint64_t, at[2]) << 40 | FTY_API_AS(uint64_t, at[3]) << 32
-           | FTY_API_AS(uint64_t, at[4]) << 24 | FTY_API_AS(uint64_t, at[5]) << 16
-           | FTY_API_AS(uint64_t, at[6]) << 8 | at[7];
 }
 /** @endcond */
 
@@ -423,7 +456,7 @@ FTY_API_INLINE fty_view fty_api_to(fty_view view, uint32_t start) FTY_API_NOEXCE
 FTY_API_INLINE fty_view fty_at_offset16(fty_view view, size_t offset) FTY_API_NOEXCEPT {
     if (!fty_api_within(view, offset, 2))
         return fty_absent();
-    return fty_api_to(view, fty_api_two(view.bytes + offset));
+    return fty_api_to(view, fty_peek_u16(view.bytes + offset));
 }
 
 /**
@@ -433,7 +466,7 @@ FTY_API_INLINE fty_view fty_at_offset16(fty_view view, size_t offset) FTY_API_NO
 FTY_API_INLINE fty_view fty_at_offset24(fty_view view, size_t offset) FTY_API_NOEXCEPT {
     if (!fty_api_within(view, offset, 3))
         return fty_absent();
-    return fty_api_to(view, fty_api_three(view.bytes + offset));
+    return fty_api_to(view, fty_peek_u24(view.bytes + offset));
 }
 
 /**
@@ -443,7 +476,7 @@ FTY_API_INLINE fty_view fty_at_offset24(fty_view view, size_t offset) FTY_API_NO
 FTY_API_INLINE fty_view fty_at_offset32(fty_view view, size_t offset) FTY_API_NOEXCEPT {
     if (!fty_api_within(view, offset, 4))
         return fty_absent();
-    return fty_api_to(view, fty_api_four(view.bytes + offset));
+    return fty_api_to(view, fty_peek_u32(view.bytes + offset));
 }
 
 /** Reads a uint8, or fails by FTY_OUT_OF_BOUNDS. */
@@ -483,7 +516,7 @@ FTY_API_INLINE fty_status fty_read_u16(
     fty_view view, size_t offset, uint16_t *value) FTY_API_NOEXCEPT {
     if (!fty_api_within(view, offset, 2))
         return FTY_OUT_OF_BOUNDS;
-    *value = FTY_API_AS(uint16_t, fty_api_two(view.bytes + offset));
+    *value = fty_peek_u16(view.bytes + offset);
     return FTY_OK;
 }
 
@@ -491,7 +524,7 @@ FTY_API_INLINE fty_status fty_read_u16(
 FTY_API_INLINE uint16_t fty_u16(fty_view view, size_t offset) FTY_API_NOEXCEPT {
     if (!fty_api_within(view, offset, 2))
         return 0;
-    return FTY_API_AS(uint16_t, fty_api_two(view.bytes + offset));
+    return fty_peek_u16(view.bytes + offset);
 }
 
 /** Reads an int16, or fails by FTY_OUT_OF_BOUNDS. */
@@ -499,7 +532,7 @@ FTY_API_INLINE fty_status fty_read_i16(
     fty_view view, size_t offset, int16_t *value) FTY_API_NOEXCEPT {
     if (!fty_api_within(view, offset, 2))
         return FTY_OUT_OF_BOUNDS;
-    *value = FTY_API_AS(int16_t, fty_api_two(view.bytes + offset));
+    *value = fty_peek_i16(view.bytes + offset);
     return FTY_OK;
 }
 
@@ -507,7 +540,7 @@ FTY_API_INLINE fty_status fty_read_i16(
 FTY_API_INLINE int16_t fty_i16(fty_view view, size_t offset) FTY_API_NOEXCEPT {
     if (!fty_api_within(view, offset, 2))
         return 0;
-    return FTY_API_AS(int16_t, fty_api_two(view.bytes + offset));
+    return fty_peek_i16(view.bytes + offset);
 }
 
 /** Reads a uint24, or fails by FTY_OUT_OF_BOUNDS. */
@@ -515,7 +548,7 @@ FTY_API_INLINE fty_status fty_read_u24(
     fty_view view, size_t offset, uint32_t *value) FTY_API_NOEXCEPT {
     if (!fty_api_within(view, offset, 3))
         return FTY_OUT_OF_BOUNDS;
-    *value = fty_api_three(view.bytes + offset);
+    *value = fty_peek_u24(view.bytes + offset);
     return FTY_OK;
 }
 
@@ -523,7 +556,7 @@ FTY_API_INLINE fty_status fty_read_u24(
 FTY_API_INLINE uint32_t fty_u24(fty_view view, size_t offset) FTY_API_NOEXCEPT {
     if (!fty_api_within(view, offset, 3))
         return 0;
-    return fty_api_three(view.bytes + offset);
+    return fty_peek_u24(view.bytes + offset);
 }
 
 /** Reads an int24, or fails by FTY_OUT_OF_BOUNDS. */
@@ -531,7 +564,7 @@ FTY_API_INLINE fty_status fty_read_i24(
     fty_view view, size_t offset, int32_t *value) FTY_API_NOEXCEPT {
     if (!fty_api_within(view, offset, 3))
         return FTY_OUT_OF_BOUNDS;
-    *value = fty_api_signed_three(view.bytes + offset);
+    *value = fty_peek_i24(view.bytes + offset);
     return FTY_OK;
 }
 
@@ -539,7 +572,7 @@ FTY_API_INLINE fty_status fty_read_i24(
 FTY_API_INLINE int32_t fty_i24(fty_view view, size_t offset) FTY_API_NOEXCEPT {
     if (!fty_api_within(view, offset, 3))
         return 0;
-    return fty_api_signed_three(view.bytes + offset);
+    return fty_peek_i24(view.bytes + offset);
 }
 
 /** Reads a uint32, or fails by FTY_OUT_OF_BOUNDS. */
@@ -547,7 +580,7 @@ FTY_API_INLINE fty_status fty_read_u32(
     fty_view view, size_t offset, uint32_t *value) FTY_API_NOEXCEPT {
     if (!fty_api_within(view, offset, 4))
         return FTY_OUT_OF_BOUNDS;
-    *value = fty_api_four(view.bytes + offset);
+    *value = fty_peek_u32(view.bytes + offset);
     return FTY_OK;
 }
 
@@ -555,7 +588,7 @@ FTY_API_INLINE fty_status fty_read_u32(
 FTY_API_INLINE uint32_t fty_u32(fty_view view, size_t offset) FTY_API_NOEXCEPT {
     if (!fty_api_within(view, offset, 4))
         return 0;
-    return fty_api_four(view.bytes + offset);
+    return fty_peek_u32(view.bytes + offset);
 }
 
 /** Reads an int32, or fails by FTY_OUT_OF_BOUNDS. */
@@ -563,7 +596,7 @@ FTY_API_INLINE fty_status fty_read_i32(
     fty_view view, size_t offset, int32_t *value) FTY_API_NOEXCEPT {
     if (!fty_api_within(view, offset, 4))
         return FTY_OUT_OF_BOUNDS;
-    *value = FTY_API_AS(int32_t, fty_api_four(view.bytes + offset));
+    *value = fty_peek_i32(view.bytes + offset);
     return FTY_OK;
 }
 
@@ -571,7 +604,7 @@ FTY_API_INLINE fty_status fty_read_i32(
 FTY_API_INLINE int32_t fty_i32(fty_view view, size_t offset) FTY_API_NOEXCEPT {
     if (!fty_api_within(view, offset, 4))
         return 0;
-    return FTY_API_AS(int32_t, fty_api_four(view.bytes + offset));
+    return fty_peek_i32(view.bytes + offset);
 }
 
 /** Reads an int64, or fails by FTY_OUT_OF_BOUNDS. */
@@ -579,7 +612,7 @@ FTY_API_INLINE fty_status fty_read_i64(
     fty_view view, size_t offset, int64_t *value) FTY_API_NOEXCEPT {
     if (!fty_api_within(view, offset, 8))
         return FTY_OUT_OF_BOUNDS;
-    *value = FTY_API_AS(int64_t, fty_api_eight(view.bytes + offset));
+    *value = fty_peek_i64(view.bytes + offset);
     return FTY_OK;
 }
 
@@ -587,7 +620,7 @@ FTY_API_INLINE fty_status fty_read_i64(
 FTY_API_INLINE int64_t fty_i64(fty_view view, size_t offset) FTY_API_NOEXCEPT {
     if (!fty_api_within(view, offset, 8))
         return 0;
-    return FTY_API_AS(int64_t, fty_api_eight(view.bytes + offset));
+    return fty_peek_i64(view.bytes + offset);
 }
 
 /**
@@ -600,9 +633,9 @@ FTY_API_INLINE fty_status fty_read_uint(
         return FTY_OUT_OF_BOUNDS;
     switch (size) {
     case 1: *value = view.bytes[offset]; return FTY_OK;
-    case 2: *value = fty_api_two(view.bytes + offset); return FTY_OK;
-    case 3: *value = fty_api_three(view.bytes + offset); return FTY_OK;
-    case 4: *value = fty_api_four(view.bytes + offset); return FTY_OK;
+    case 2: *value = fty_peek_u16(view.bytes + offset); return FTY_OK;
+    case 3: *value = fty_peek_u24(view.bytes + offset); return FTY_OK;
+    case 4: *value = fty_peek_u32(view.bytes + offset); return FTY_OK;
     default: return FTY_OUT_OF_BOUNDS;
     }
 }
@@ -613,9 +646,9 @@ FTY_API_INLINE uint32_t fty_uint(fty_view view, size_t offset, size_t size) FTY_
         return 0;
     switch (size) {
     case 1: return view.bytes[offset];
-    case 2: return fty_api_two(view.bytes + offset);
-    case 3: return fty_api_three(view.bytes + offset);
-    case 4: return fty_api_four(view.bytes + offset);
+    case 2: return fty_peek_u16(view.bytes + offset);
+    case 3: return fty_peek_u24(view.bytes + offset);
+    case 4: return fty_peek_u32(view.bytes + offset);
     default: return 0;
     }
 }
@@ -636,19 +669,6 @@ FTY_API_INLINE fty_status fty_write_uint(
     return FTY_OK;
 }
 
-/** @cond */
-/* Stores the last two and four bytes of a number. (Not by a loop, which GCC leaves one at -O2.) */
-FTY_API_STATIC void fty_api_put_two(uint8_t *at, uint32_t value) FTY_API_NOEXCEPT {
-    at[0] = FTY_API_AS(uint8_t, value >> 8 & 0xFF);
-    at[1] = FTY_API_AS(uint8_t, value & 0xFF);
-}
-
-FTY_API_STATIC void fty_api_put_four(uint8_t *at, uint32_t value) FTY_API_NOEXCEPT {
-    fty_api_put_two(at, value >> 16);
-    fty_api_put_two(at + 2, value);
-}
-/** @endcond */
-
 /** Writes a uint8, or fails by FTY_OUT_OF_BOUNDS. */
 FTY_API_INLINE fty_status fty_write_u8(
     uint8_t *bytes, size_t length, size_t offset, uint8_t value) FTY_API_NOEXCEPT {
@@ -663,14 +683,17 @@ FTY_API_INLINE fty_status fty_write_u16(
     uint8_t *bytes, size_t length, size_t offset, uint16_t value) FTY_API_NOEXCEPT {
     if (length < 2 || offset > length - 2)
         return FTY_OUT_OF_BOUNDS;
-    fty_api_put_two(bytes + offset, value);
+    fty_poke_u16(bytes + offset, value);
     return FTY_OK;
 }
 
 /** Writes a uint24, the low 24 bits of the value, or fails by FTY_OUT_OF_BOUNDS. */
 FTY_API_INLINE fty_status fty_write_u24(
     uint8_t *bytes, size_t length, size_t offset, uint32_t value) FTY_API_NOEXCEPT {
-    return fty_write_uint(bytes, length, offset, 3, value);
+    if (length < 3 || offset > length - 3)
+        return FTY_OUT_OF_BOUNDS;
+    fty_poke_u24(bytes + offset, value);
+    return FTY_OK;
 }
 
 /** Writes a uint32, or fails by FTY_OUT_OF_BOUNDS. */
@@ -678,7 +701,7 @@ FTY_API_INLINE fty_status fty_write_u32(
     uint8_t *bytes, size_t length, size_t offset, uint32_t value) FTY_API_NOEXCEPT {
     if (length < 4 || offset > length - 4)
         return FTY_OUT_OF_BOUNDS;
-    fty_api_put_four(bytes + offset, value);
+    fty_poke_u32(bytes + offset, value);
     return FTY_OK;
 }
 
@@ -687,8 +710,7 @@ FTY_API_INLINE fty_status fty_write_u64(
     uint8_t *bytes, size_t length, size_t offset, uint64_t value) FTY_API_NOEXCEPT {
     if (length < 8 || offset > length - 8)
         return FTY_OUT_OF_BOUNDS;
-    fty_api_put_four(bytes + offset, FTY_API_AS(uint32_t, value >> 32));
-    fty_api_put_four(bytes + offset + 4, FTY_API_AS(uint32_t, value & 0xFFFFFFFF));
+    fty_poke_u64(bytes + offset, value);
     return FTY_OK;
 }
 
@@ -701,16 +723,8 @@ FTY_API_RUN fty_status fty_write_bytes(
     const size_t count = view.length;
     if (view.bytes == FTY_API_NULL || count > length || offset > length - count)
         return FTY_OUT_OF_BOUNDS;
-    if (count == 0)
-        return FTY_OK;
-    uint8_t *const at = bytes + offset;
-    if (FTY_API_ADDRESS(at) <= FTY_API_ADDRESS(view.bytes)) {
-        for (size_t i = 0; i < count; i++)
-            at[i] = view.bytes[i];
-    } else {
-        for (size_t i = count; i > 0; i--)
-            at[i - 1] = view.bytes[i - 1];
-    }
+    if (count != 0)
+        FTY_API_MOVE(bytes + offset, view.bytes, count);
     return FTY_OK;
 }
 
@@ -759,6 +773,43 @@ FTY_API_INLINE fty_status fty_round_i64(
         return FTY_OUT_OF_RANGE;
     *rounded = (bits + half) & -2 * half;
     return FTY_OK;
+}
+
+/* ---- and of 16.16 and 26.6 by name; these wrap ---- */
+
+/** The greatest integer of 16.16 up to x. */
+FTY_API_INLINE int32_t fty_fixed_floor(int32_t x) FTY_API_NOEXCEPT {
+    return x & -65536;
+}
+
+/** The least integer of 16.16 from x on; wraps. */
+FTY_API_INLINE int32_t fty_fixed_ceil(int32_t x) FTY_API_NOEXCEPT {
+    return FTY_API_AS(int32_t, FTY_API_AS(uint32_t, x) + 0xFFFFu) & -65536;
+}
+
+/** The nearest integer of 16.16, half up; wraps. */
+FTY_API_INLINE int32_t fty_fixed_round(int32_t x) FTY_API_NOEXCEPT {
+    return FTY_API_AS(int32_t, FTY_API_AS(uint32_t, x) + 0x8000u) & -65536;
+}
+
+/** The nearest integer of 16.16, half away from zero; wraps. */
+FTY_API_INLINE int32_t fty_fixed_round_away(int32_t x) FTY_API_NOEXCEPT {
+    return FTY_API_AS(int32_t, FTY_API_AS(uint32_t, x) + 0x8000u - (x < 0)) & -65536;
+}
+
+/** The greatest integer of 26.6 up to x: whole pixels. */
+FTY_API_INLINE int32_t fty_f26dot6_floor(int32_t x) FTY_API_NOEXCEPT {
+    return x & -64;
+}
+
+/** The least integer of 26.6 from x on; wraps. */
+FTY_API_INLINE int32_t fty_f26dot6_ceil(int32_t x) FTY_API_NOEXCEPT {
+    return FTY_API_AS(int32_t, FTY_API_AS(uint32_t, x) + 63u) & -64;
+}
+
+/** The nearest integer of 26.6, half up; wraps. */
+FTY_API_INLINE int32_t fty_f26dot6_round(int32_t x) FTY_API_NOEXCEPT {
+    return FTY_API_AS(int32_t, FTY_API_AS(uint32_t, x) + 32u) & -64;
 }
 
 /* ---- conversions to fewer fraction bits, half up; those to as many or more are C, as `bits * 4`
@@ -810,6 +861,41 @@ FTY_API_INLINE int32_t fty_f2dot30_to_fixed(int32_t bits) FTY_API_NOEXCEPT {
 /** 2.30 to the nearest 2.14; wraps. */
 FTY_API_INLINE int16_t fty_f2dot30_to_f2dot14(int32_t bits) FTY_API_NOEXCEPT {
     return FTY_API_AS(int16_t, fty_fixed_to_i32(bits));
+}
+
+/* ---- products. (The library exports fty_fixed_mul and fty_f26dot6_mul too, for languages that
+ *      do not read this header.) ---- */
+
+/** @cond */
+/* A product of up to 2^62, over 2^shift, half away from zero; wraps. */
+FTY_API_INLINE int32_t fty_api_nearest(int64_t product, int shift) FTY_API_NOEXCEPT {
+    const int64_t half = INT64_C(1) << (shift - 1);
+    const uint64_t sum = FTY_API_AS(uint64_t, product + half - (product < 0));
+    return FTY_API_AS(int32_t, sum >> shift & 0xFFFFFFFFu);
+}
+/** @endcond */
+
+/** x * y in 16.16, half away from zero; wraps. */
+FTY_API_INLINE int32_t fty_fixed_mul(int32_t x, int32_t y) FTY_API_NOEXCEPT {
+    return fty_api_nearest(FTY_API_AS(int64_t, x) * y, 16);
+}
+
+/** x * y in 26.6, half away from zero; wraps. */
+FTY_API_INLINE int32_t fty_f26dot6_mul(int32_t x, int32_t y) FTY_API_NOEXCEPT {
+    return fty_api_nearest(FTY_API_AS(int64_t, x) * y, 6);
+}
+
+/**
+ * x * a / c, rounded once, half away from zero. It cannot overflow: fty_fixed_mul_div returns its
+ * low 32 bits. If c is 0, INT32_MAX, negated if exactly one of x and a is negative.
+ */
+FTY_API_INLINE int64_t fty_mul_div_i64(int32_t x, int32_t a, int32_t c) FTY_API_NOEXCEPT {
+    const int64_t p = FTY_API_AS(int64_t, x) * a, n = p < 0 ? -p : p;
+    const int64_t d = c < 0 ? -FTY_API_AS(int64_t, c) : c;
+    if (d == 0)
+        return (x < 0) != (a < 0) ? -INT32_MAX : INT32_MAX;
+    const int64_t nearest = (n + d / 2) / d;
+    return (p < 0) != (c < 0) ? -nearest : nearest;
 }
 
 /* ---- sums and products that wrap: `x - y` of two fields, and `x * 65536` of one, may overflow,
@@ -943,7 +1029,7 @@ FTY_API_ASSERT(offsetof(fty_view, length) == sizeof(const uint8_t *));
 #undef FTY_API_NOEXCEPT
 #undef FTY_API_NULL
 #undef FTY_API_AS
-#undef FTY_API_ADDRESS
+#undef FTY_API_MOVE
 #undef FTY_API_CONST
 #undef FTY_API_MUST_USE
 #undef FTY_API_PURE

@@ -4,13 +4,21 @@
  * those of the Rust. Expected values are exact: rational arithmetic, rounded and wrapped as
  * font_types.h says. header.c calls all inline functions.
  */
+/* The functions of the header that the library exports too get other names here. */
+#define fty_fixed_mul inline_fixed_mul
+#define fty_f26dot6_mul inline_f26dot6_mul
 #include "font_types.h"
+#undef fty_fixed_mul
+#undef fty_f26dot6_mul
 
 #include <stdio.h>
 #include <string.h>
 
 /* What a call must leave in an out-parameter if it fails. */
 enum { KEPT = 7, BUFFER = 64, TOO_MANY_SCALARS = 65536 };
+
+/* How many times the exports of products are compared with the header. */
+enum { ROUNDS = 1000000 };
 
 #define COUNT(ROWS) (sizeof(ROWS) / sizeof(ROWS)[0])
 
@@ -211,6 +219,15 @@ static void check_decimals(void) {
 
 /* ---- products and conversions ---- */
 
+#ifdef __cplusplus
+extern "C" {
+#endif
+int32_t fty_fixed_mul(int32_t x, int32_t y);
+int32_t fty_f26dot6_mul(int32_t x, int32_t y);
+#ifdef __cplusplus
+}
+#endif
+
 static const struct {
     int32_t (*call)(int32_t, int32_t);
     int32_t x, y, expected;
@@ -228,6 +245,25 @@ static const struct {
     {fty_fixed_div, -1, 131072, -1},
     {fty_f26dot6_div, -1, 128, -1},
 };
+
+/* The exports return what the header does, of numbers of random length; and mul_div of 64 bits has
+ * the low bits that the export returns. */
+static void check_exports(void) {
+    uint64_t s = 1;
+    int differences = 0;
+    for (int i = 0; i < ROUNDS; i++) {
+        s ^= s << 13;
+        s ^= s >> 7;
+        s ^= s << 17;
+        const int32_t x = (int32_t)(s >> 32) >> s % 32;
+        const int32_t y = (int32_t)(s & UINT32_MAX) >> (s >> 40) % 32;
+        const int32_t z = (int32_t)(s >> 16 & 0xFFFF) - 32768;
+        differences += inline_fixed_mul(x, y) != fty_fixed_mul(x, y)
+                       || inline_f26dot6_mul(x, y) != fty_f26dot6_mul(x, y)
+                       || (int32_t)fty_mul_div_i64(x, y, z) != fty_fixed_mul_div(x, y, z);
+    }
+    check("exports", 0, differences, 0);
+}
 
 static void check_numbers(void) {
     for (size_t i = 0; i < COUNT(products); i++)
@@ -402,6 +438,7 @@ int main(int count, char **arguments) {
     check("version", 1, strcmp(FTY_VERSION, "0.7.0"), 0);
     check_decimals();
     check_numbers();
+    check_exports();
     check_matrices();
     check_sums();
     check_lengths();
@@ -409,5 +446,5 @@ int main(int count, char **arguments) {
     check_nulls();
     printf("table: %d checks, %d failed\n", checks, failures);
     /* With another number, a part was left out. */
-    return failures == 0 && checks == 554 ? 0 : 1;
+    return failures == 0 && checks == 555 ? 0 : 1;
 }
