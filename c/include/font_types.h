@@ -1,14 +1,37 @@
 /* SPDX-License-Identifier: MIT OR Apache-2.0 */
 /**
  * @file
- * Fixed-point numbers, matrices, tags, sums of deltas and big-endian fields of OpenType fonts.
- * For C99 and later, and for C++11 and later. Link with libfont_types.
+ * Big-endian fields, fixed-point numbers, matrices, sums of deltas and tags of OpenType fonts.
+ * For C99 and later, and for C++11 and later.
  *
- * Each function that the library exports, in the first part below, has a contract that is
- * proved; its comment states it. The static inline functions in the second part are C. What
- * they return and write is proved by CBMC, a bounded model checker, for every argument and
- * every array of up to 2^48 bytes, and that they touch nothing beyond it. That a compiler
- * reads them as CBMC does is tested.
+ * In C, in this file: `static inline`, and constant expressions from C++14 on, except
+ * fty_write_bytes. A program that calls only these needs no library.
+ *
+ *     views         fty_{absent,part,items,from}  fty_at_offset{16,24,32}
+ *     fields        fty_{u8,i8,u16,i16,u24,i24,u32,i32,i64,uint}
+ *       checked     fty_read_{u8,i8,u16,i16,u24,i24,u32,i32,i64,uint}
+ *       written     fty_write_{u8,u16,u24,u32,u64,uint,bytes}
+ *       at pointers fty_peek_{u16,i16,u24,i24,u32,i32,i64}  fty_poke_{u16,u24,u32,u64}
+ *     rounding      fty_round_{i16,i32,i64}  fty_fixed_{floor,ceil,round,round_away}
+ *                   fty_f26dot6_{floor,ceil,round}
+ *     conversions   fty_fixed_to_{i32,f26dot6,f2dot14}  fty_f26dot6_to_i32  fty_fixed_from_i32
+ *                   fty_f48dot16_to_{i64,fixed}  fty_f2dot30_to_{fixed,f2dot14}
+ *     arithmetic    fty_fixed_{add,sub,mul}  fty_f26dot6_mul  fty_mul_div_i64
+ *     others        fty_delta_set_length  fty_status_text  FTY_TAG
+ *
+ * Calls of the library: link with libfont_types.
+ *
+ *     quotients     fty_fixed_{div,mul_div}  fty_f26dot6_div
+ *     matrices      fty_matrix_{product,image,vector,images}
+ *     deltas        fty_delta_{sum,set_sum}  fty_apply_delta_{i16,u16}
+ *     decimals      fty_parse_{i16,i32,i64}  fty_{format,format_padded}
+ *                   fty_{fixed,f2dot14,f26dot6}_{parse,format,format_padded}
+ *     tags          fty_tag_{new,validate,to_text}
+ *     version       fty_version
+ *
+ * Each function that the library exports has a contract that is proved; its comment states it.
+ * What the functions in C return and write, and that they touch nothing else, is proved by CBMC
+ * for every argument. That a compiler reads them as CBMC does is tested.
  *
  * A number is a raw value with a number of fraction bits f: the int32_t 98304 is
  * 98304 / 2^16 = 1.5 in 16.16, for which f is 16. f is from 6 to 30, and at most the
@@ -121,199 +144,6 @@ enum {
     FTY_F2DOT30_BITS = 30, /**< 2.30, int32_t */
     FTY_F48DOT16_BITS = 16 /**< 48.16, int64_t */
 };
-
-/** The version of the linked library, as FTY_VERSION_NUMBER. */
-FTY_API_PURE uint32_t fty_version(void) FTY_API_NOEXCEPT;
-
-/* ---- decimal text: `-` if negative, digits, and optionally a point and digits ---- */
-
-/**
- * Parses a decimal of any length as the nearest 16-bit raw value, half away from zero.
- * Fails by FTY_BAD_FRACTION, FTY_NOT_DECIMAL, FTY_OUT_OF_RANGE.
- */
-FTY_API_MUST_USE fty_status fty_parse_i16(
-    const char *text, size_t length, uint32_t fraction_bits, int16_t *bits) FTY_API_NOEXCEPT;
-
-/**
- * Parses a decimal of any length as the nearest 32-bit raw value, half away from zero.
- * Fails by FTY_BAD_FRACTION, FTY_NOT_DECIMAL, FTY_OUT_OF_RANGE.
- */
-FTY_API_MUST_USE fty_status fty_parse_i32(
-    const char *text, size_t length, uint32_t fraction_bits, int32_t *bits) FTY_API_NOEXCEPT;
-
-/**
- * Parses a decimal of any length as the nearest 64-bit raw value, half away from zero.
- * Fails by FTY_BAD_FRACTION, FTY_NOT_DECIMAL, FTY_OUT_OF_RANGE.
- */
-FTY_API_MUST_USE fty_status fty_parse_i64(
-    const char *text, size_t length, uint32_t fraction_bits, int64_t *bits) FTY_API_NOEXCEPT;
-
-/** Room for a decimal, which has at most 22 bytes, and for a NUL, which is not written. */
-enum { FTY_DECIMAL_ROOM = 24 };
-
-/**
- * Writes the shortest decimal that parses back to the raw value; of these, the
- * nearest, and of two, the one farther from zero. The raw value may have any width.
- * Fails by FTY_BAD_FRACTION, FTY_BUFFER_TOO_SMALL.
- */
-FTY_API_MUST_USE fty_status fty_format(
-    int64_t bits, uint32_t fraction_bits, char *out, size_t room, size_t *length) FTY_API_NOEXCEPT;
-
-/** The alignment of padded text. */
-typedef enum fty_align {
-    FTY_LEFT = 0,   /**< fill on the right */
-    FTY_CENTER = 1, /**< fill on both sides; an odd fill byte goes on the right */
-    FTY_RIGHT = 2   /**< fill on the left */
-} fty_align;
-
-/** How to pad a decimal. */
-typedef struct fty_pad {
-    size_t width;  /**< the minimum width in bytes; 0 means none */
-    uint8_t fill;  /**< the fill byte, below 0x80; 0 means a space */
-    uint8_t align; /**< a fty_align */
-    uint8_t plus;  /**< if not 0, a `+` is written unless the text starts with `-` */
-    uint8_t zeros; /**< if not 0, pads with zeros after the sign, ignoring `fill` and `align` */
-} fty_pad;
-
-/** Right-aligned in `WIDTH` bytes, filled with spaces. */
-#define FTY_PAD_INIT(WIDTH) {(WIDTH), ' ', FTY_RIGHT, 0, 0}
-
-/**
- * As fty_format, padded. Room for `width` bytes is enough, or for 22 if that is more.
- * Fails by FTY_BAD_FRACTION, FTY_BAD_PAD, FTY_BUFFER_TOO_SMALL.
- */
-FTY_API_MUST_USE fty_status fty_format_padded(
-    int64_t bits, uint32_t fraction_bits, const fty_pad *pad, char *out, size_t room,
-    size_t *length) FTY_API_NOEXCEPT;
-
-/* ---- products ---- */
-
-/** x / y in 16.16, half away from zero; wraps. If y is 0, INT32_MAX, negated if x is negative. */
-FTY_API_PURE int32_t fty_fixed_div(int32_t x, int32_t y) FTY_API_NOEXCEPT;
-
-/**
- * x * a / c, rounded once, half away from zero; wraps. If c is 0, INT32_MAX, negated
- * if exactly one of x and a is negative.
- */
-FTY_API_PURE int32_t fty_fixed_mul_div(int32_t x, int32_t a, int32_t c) FTY_API_NOEXCEPT;
-
-/** x / y in 26.6, half away from zero; wraps. If y is 0, INT32_MAX, negated if x is negative. */
-FTY_API_PURE int32_t fty_f26dot6_div(int32_t x, int32_t y) FTY_API_NOEXCEPT;
-
-/* ---- matrices and points of 16.16 values: products are fty_fixed_mul, sums wrap ---- */
-
-/**
- * Transforms (x, y) to (xx * x + xy * y + dx, yx * x + yy * y + dy). The members are
- * in column order: FT_Matrix of FreeType has xx, xy, yx, yy. Points and translation
- * may also be in 26.6 or in font units, if both are in the same unit.
- */
-typedef struct fty_matrix {
-    int32_t xx; /**< from x to x */
-    int32_t yx; /**< from x to y */
-    int32_t xy; /**< from y to x */
-    int32_t yy; /**< from y to y */
-    int32_t dx; /**< added to x */
-    int32_t dy; /**< added to y */
-} fty_matrix;
-
-/** A point, or a vector. */
-typedef struct fty_point {
-    int32_t x; /**< the x coordinate */
-    int32_t y; /**< the y coordinate */
-} fty_point;
-
-/**
- * The matrix that applies b first, then a. If neither an element of the product nor a
- * coordinate of the image of p by the product overflows, each coordinate of that image
- * is at most (|p.x| + |p.y|) / 65536 + 2 from the exact one, all as raw values. (This is
- * proved of the two calls: `composed` in crates/font_c/src/laws.rt.)
- */
-FTY_API_PURE fty_matrix fty_matrix_product(fty_matrix a, fty_matrix b) FTY_API_NOEXCEPT;
-
-/**
- * Transforms a point. If a point is transformed by b, and the result by a, and no
- * coordinate of either overflows, x is at most (|a.xx| + |a.xy|) / 65536 + 1 from the
- * exact one, and y at most (|a.yx| + |a.yy|) / 65536 + 1, all as raw values. (This is
- * proved of the two calls: `in_turn` in crates/font_c/src/laws.rt.)
- */
-FTY_API_PURE fty_point fty_matrix_image(fty_matrix m, fty_point p) FTY_API_NOEXCEPT;
-
-/** Transforms a vector, without the translation. */
-FTY_API_PURE fty_point fty_matrix_vector(fty_matrix m, fty_point v) FTY_API_NOEXCEPT;
-
-/** Transforms points in place, each as fty_matrix_image does. */
-void fty_matrix_images(const fty_matrix *m, fty_point *points,
-                       size_t count) FTY_API_NOEXCEPT;
-
-/* ---- sums of deltas: scalars are 16.16, deltas font units, sums 48.16 ---- */
-
-/**
- * The exact sum of scalar times delta over all items, even if partial sums overflow. Deltas may
- * also be raw values of f fraction bits; the sum then has f + 16.
- * Fails by FTY_COUNT_MISMATCH, FTY_OUT_OF_RANGE.
- */
-FTY_API_MUST_USE fty_status fty_delta_sum(
-    const int32_t *scalars, size_t scalar_count, const int32_t *deltas, size_t delta_count,
-    int64_t *sum) FTY_API_NOEXCEPT;
-
-/**
- * The same over a delta set of an item variation store. `word_count` is the field of the
- * font: the set has as many deltas of 16 bits as its low 15 bits say, followed by deltas
- * of 8 bits, or of 32 and of 16 bits if its bit 0x8000 is set. The set has as many deltas
- * as there are scalars, and exactly the bytes that these take, fty_delta_set_length. The sum
- * is exact for the scalars given; what rounded these before is not in it: see "How exact" in
- * c/README.md.
- * Fails by FTY_TOO_MANY; by FTY_COUNT_MISMATCH, also if the low 15 bits of `word_count`
- * exceed the number of scalars; and by FTY_OUT_OF_RANGE if bit 0x8000 is set.
- */
-FTY_API_MUST_USE fty_status fty_delta_set_sum(
-    const int32_t *scalars, size_t scalar_count, const uint8_t *set, size_t set_length,
-    uint16_t word_count, int64_t *sum) FTY_API_NOEXCEPT;
-
-/** Font units plus a 48.16 delta, to the nearest font unit, half up, or FTY_OUT_OF_RANGE. */
-FTY_API_MUST_USE fty_status fty_apply_delta_i16(
-    int16_t base, int64_t delta, int16_t *units) FTY_API_NOEXCEPT;
-
-/** Unsigned font units, as advances are, plus a 48.16 delta, rounded in the same way. */
-FTY_API_MUST_USE fty_status fty_apply_delta_u16(
-    uint16_t base, int64_t delta, uint16_t *units) FTY_API_NOEXCEPT;
-
-/* ---- tags, as numbers with the big-endian bytes of the tag ---- */
-
-/** A tag of four characters, as a constant expression: FTY_TAG('g', 'l', 'y', 'f'). */
-#define FTY_TAG(A, B, C, D)                                                \
-    (((A) & 0xFF) * UINT32_C(0x1000000) + ((B) & 0xFF) * UINT32_C(0x10000) \
-     + ((C) & 0xFF) * UINT32_C(0x100) + ((D) & 0xFF))
-
-/** Room for the text of a tag, which has at most 24 bytes, and for a NUL, which is not written. */
-enum { FTY_TAG_ROOM = 25 };
-
-/**
- * Creates a valid tag from one to four bytes, padding with spaces.
- * Fails by FTY_TAG_LENGTH, FTY_TAG_BYTE.
- */
-FTY_API_MUST_USE fty_status fty_tag_new(
-    const char *text, size_t length, uint32_t *tag) FTY_API_NOEXCEPT;
-
-/**
- * Checks a tag, and stores nothing if it is valid. Fails by FTY_TAG_LENGTH for four
- * spaces; else by FTY_TAG_BYTE or FTY_TAG_AFTER_SPACE, by what is wrong with the first
- * invalid byte, whose index, 0 to 3, is stored.
- */
-FTY_API_MUST_USE fty_status fty_tag_validate(uint32_t tag, uint32_t *position) FTY_API_NOEXCEPT;
-
-/**
- * Writes the text of a tag: bytes 0x20 to 0x7E as they are, else {0xNN}.
- * Fails by FTY_BUFFER_TOO_SMALL.
- */
-FTY_API_MUST_USE fty_status fty_tag_to_text(
-    uint32_t tag, char *out, size_t room, size_t *length) FTY_API_NOEXCEPT;
-
-#ifdef __cplusplus
-}
-#endif
-
-/* ---- the second part, in C: proved by CBMC ---- */
 
 /* ---- bytes at a pointer, for a caller that knows that they are there; a view checks it ---- */
 
@@ -863,8 +693,8 @@ FTY_API_INLINE int16_t fty_f2dot30_to_f2dot14(int32_t bits) FTY_API_NOEXCEPT {
     return FTY_API_AS(int16_t, fty_fixed_to_i32(bits));
 }
 
-/* ---- products. (The library exports fty_fixed_mul and fty_f26dot6_mul too, for languages that
- *      do not read this header.) ---- */
+/* ---- products and quotients. (The library exports fty_fixed_mul and fty_f26dot6_mul too, for
+ *      languages that do not read this header.) ---- */
 
 /** @cond */
 /* A product of up to 2^62, over 2^shift, half away from zero; wraps. */
@@ -898,6 +728,18 @@ FTY_API_INLINE int64_t fty_mul_div_i64(int32_t x, int32_t a, int32_t c) FTY_API_
     return (p < 0) != (c < 0) ? -nearest : nearest;
 }
 
+/** x / y in 16.16, half away from zero; wraps. If y is 0, INT32_MAX, negated if x is negative. */
+FTY_API_PURE int32_t fty_fixed_div(int32_t x, int32_t y) FTY_API_NOEXCEPT;
+
+/**
+ * x * a / c, rounded once, half away from zero; wraps. If c is 0, INT32_MAX, negated
+ * if exactly one of x and a is negative.
+ */
+FTY_API_PURE int32_t fty_fixed_mul_div(int32_t x, int32_t a, int32_t c) FTY_API_NOEXCEPT;
+
+/** x / y in 26.6, half away from zero; wraps. If y is 0, INT32_MAX, negated if x is negative. */
+FTY_API_PURE int32_t fty_f26dot6_div(int32_t x, int32_t y) FTY_API_NOEXCEPT;
+
 /* ---- sums and products that wrap: `x - y` of two fields, and `x * 65536` of one, may overflow,
  *      which is undefined behavior in C ---- */
 
@@ -928,12 +770,151 @@ FTY_API_INLINE fty_status fty_f48dot16_to_fixed(
     return FTY_OK;
 }
 
+/* ---- matrices and points of 16.16 values: products are fty_fixed_mul, sums wrap ---- */
+
+/**
+ * Transforms (x, y) to (xx * x + xy * y + dx, yx * x + yy * y + dy). The members are
+ * in column order: FT_Matrix of FreeType has xx, xy, yx, yy. Points and translation
+ * may also be in 26.6 or in font units, if both are in the same unit.
+ */
+typedef struct fty_matrix {
+    int32_t xx; /**< from x to x */
+    int32_t yx; /**< from x to y */
+    int32_t xy; /**< from y to x */
+    int32_t yy; /**< from y to y */
+    int32_t dx; /**< added to x */
+    int32_t dy; /**< added to y */
+} fty_matrix;
+
+/** A point, or a vector. */
+typedef struct fty_point {
+    int32_t x; /**< the x coordinate */
+    int32_t y; /**< the y coordinate */
+} fty_point;
+
+/**
+ * The matrix that applies b first, then a. If neither an element of the product nor a
+ * coordinate of the image of p by the product overflows, each coordinate of that image
+ * is at most (|p.x| + |p.y|) / 65536 + 2 from the exact one, all as raw values. (This is
+ * proved of the two calls: `composed` in crates/font_c/src/laws.rt.)
+ */
+FTY_API_PURE fty_matrix fty_matrix_product(fty_matrix a, fty_matrix b) FTY_API_NOEXCEPT;
+
+/**
+ * Transforms a point. If a point is transformed by b, and the result by a, and no
+ * coordinate of either overflows, x is at most (|a.xx| + |a.xy|) / 65536 + 1 from the
+ * exact one, and y at most (|a.yx| + |a.yy|) / 65536 + 1, all as raw values. (This is
+ * proved of the two calls: `in_turn` in crates/font_c/src/laws.rt.)
+ */
+FTY_API_PURE fty_point fty_matrix_image(fty_matrix m, fty_point p) FTY_API_NOEXCEPT;
+
+/** Transforms a vector, without the translation. */
+FTY_API_PURE fty_point fty_matrix_vector(fty_matrix m, fty_point v) FTY_API_NOEXCEPT;
+
+/** Transforms points in place, each as fty_matrix_image does. */
+void fty_matrix_images(const fty_matrix *m, fty_point *points,
+                       size_t count) FTY_API_NOEXCEPT;
+
+/* ---- sums of deltas: scalars are 16.16, deltas font units, sums 48.16 ---- */
+
+/**
+ * The exact sum of scalar times delta over all items, even if partial sums overflow. Deltas may
+ * also be raw values of f fraction bits; the sum then has f + 16.
+ * Fails by FTY_COUNT_MISMATCH, FTY_OUT_OF_RANGE.
+ */
+FTY_API_MUST_USE fty_status fty_delta_sum(
+    const int32_t *scalars, size_t scalar_count, const int32_t *deltas, size_t delta_count,
+    int64_t *sum) FTY_API_NOEXCEPT;
+
+/**
+ * The same over a delta set of an item variation store. `word_count` is the field of the
+ * font: the set has as many deltas of 16 bits as its low 15 bits say, followed by deltas
+ * of 8 bits, or of 32 and of 16 bits if its bit 0x8000 is set. The set has as many deltas
+ * as there are scalars, and exactly the bytes that these take, fty_delta_set_length. The sum
+ * is exact for the scalars given; what rounded these before is not in it: see "How exact" in
+ * c/README.md.
+ * Fails by FTY_TOO_MANY; by FTY_COUNT_MISMATCH, also if the low 15 bits of `word_count`
+ * exceed the number of scalars; and by FTY_OUT_OF_RANGE if bit 0x8000 is set.
+ */
+FTY_API_MUST_USE fty_status fty_delta_set_sum(
+    const int32_t *scalars, size_t scalar_count, const uint8_t *set, size_t set_length,
+    uint16_t word_count, int64_t *sum) FTY_API_NOEXCEPT;
+
 /** The number of bytes of a delta set of `count` deltas, for fty_delta_set_sum. */
 FTY_API_INLINE size_t fty_delta_set_length(
     uint16_t word_count, uint16_t count) FTY_API_NOEXCEPT {
     const size_t size = (word_count & 0x8000) != 0 ? 2 : 1;
     return size * (FTY_API_AS(size_t, count) + (word_count & 0x7FFFu));
 }
+
+/** Font units plus a 48.16 delta, to the nearest font unit, half up, or FTY_OUT_OF_RANGE. */
+FTY_API_MUST_USE fty_status fty_apply_delta_i16(
+    int16_t base, int64_t delta, int16_t *units) FTY_API_NOEXCEPT;
+
+/** Unsigned font units, as advances are, plus a 48.16 delta, rounded in the same way. */
+FTY_API_MUST_USE fty_status fty_apply_delta_u16(
+    uint16_t base, int64_t delta, uint16_t *units) FTY_API_NOEXCEPT;
+
+/* ---- decimal text: `-` if negative, digits, and optionally a point and digits ---- */
+
+/**
+ * Parses a decimal of any length as the nearest 16-bit raw value, half away from zero.
+ * Fails by FTY_BAD_FRACTION, FTY_NOT_DECIMAL, FTY_OUT_OF_RANGE.
+ */
+FTY_API_MUST_USE fty_status fty_parse_i16(
+    const char *text, size_t length, uint32_t fraction_bits, int16_t *bits) FTY_API_NOEXCEPT;
+
+/**
+ * Parses a decimal of any length as the nearest 32-bit raw value, half away from zero.
+ * Fails by FTY_BAD_FRACTION, FTY_NOT_DECIMAL, FTY_OUT_OF_RANGE.
+ */
+FTY_API_MUST_USE fty_status fty_parse_i32(
+    const char *text, size_t length, uint32_t fraction_bits, int32_t *bits) FTY_API_NOEXCEPT;
+
+/**
+ * Parses a decimal of any length as the nearest 64-bit raw value, half away from zero.
+ * Fails by FTY_BAD_FRACTION, FTY_NOT_DECIMAL, FTY_OUT_OF_RANGE.
+ */
+FTY_API_MUST_USE fty_status fty_parse_i64(
+    const char *text, size_t length, uint32_t fraction_bits, int64_t *bits) FTY_API_NOEXCEPT;
+
+/** Room for a decimal, which has at most 22 bytes, and for a NUL, which is not written. */
+enum { FTY_DECIMAL_ROOM = 24 };
+
+/**
+ * Writes the shortest decimal that parses back to the raw value; of these, the
+ * nearest, and of two, the one farther from zero. The raw value may have any width.
+ * Fails by FTY_BAD_FRACTION, FTY_BUFFER_TOO_SMALL.
+ */
+FTY_API_MUST_USE fty_status fty_format(
+    int64_t bits, uint32_t fraction_bits, char *out, size_t room, size_t *length) FTY_API_NOEXCEPT;
+
+/** The alignment of padded text. */
+typedef enum fty_align {
+    FTY_LEFT = 0,   /**< fill on the right */
+    FTY_CENTER = 1, /**< fill on both sides; an odd fill byte goes on the right */
+    FTY_RIGHT = 2   /**< fill on the left */
+} fty_align;
+
+/** How to pad a decimal. */
+typedef struct fty_pad {
+    size_t width;  /**< the minimum width in bytes; 0 means none */
+    uint8_t fill;  /**< the fill byte, below 0x80; 0 means a space */
+    uint8_t align; /**< a fty_align */
+    uint8_t plus;  /**< if not 0, a `+` is written unless the text starts with `-` */
+    uint8_t zeros; /**< if not 0, pads with zeros after the sign, ignoring `fill` and `align` */
+} fty_pad;
+
+/** Right-aligned in `WIDTH` bytes, filled with spaces. */
+#define FTY_PAD_INIT(WIDTH) {(WIDTH), ' ', FTY_RIGHT, 0, 0}
+
+/**
+ * As fty_format, padded. Room for `width` bytes is enough, or for 22 if that is more.
+ * Fails by FTY_BAD_FRACTION, FTY_BAD_PAD, FTY_BUFFER_TOO_SMALL.
+ */
+FTY_API_MUST_USE fty_status fty_format_padded(
+    int64_t bits, uint32_t fraction_bits, const fty_pad *pad, char *out, size_t room,
+    size_t *length) FTY_API_NOEXCEPT;
 
 /* ---- the functions of three formats, with their types and fraction bits ---- */
 
@@ -991,6 +972,39 @@ FTY_API_RUN fty_status fty_f26dot6_format_padded(
     return fty_format_padded(bits, FTY_F26DOT6_BITS, pad, out, room, length);
 }
 
+/* ---- tags, as numbers with the big-endian bytes of the tag ---- */
+
+/** A tag of four characters, as a constant expression: FTY_TAG('g', 'l', 'y', 'f'). */
+#define FTY_TAG(A, B, C, D)                                                \
+    (((A) & 0xFF) * UINT32_C(0x1000000) + ((B) & 0xFF) * UINT32_C(0x10000) \
+     + ((C) & 0xFF) * UINT32_C(0x100) + ((D) & 0xFF))
+
+/** Room for the text of a tag, which has at most 24 bytes, and for a NUL, which is not written. */
+enum { FTY_TAG_ROOM = 25 };
+
+/**
+ * Creates a valid tag from one to four bytes, padding with spaces.
+ * Fails by FTY_TAG_LENGTH, FTY_TAG_BYTE.
+ */
+FTY_API_MUST_USE fty_status fty_tag_new(
+    const char *text, size_t length, uint32_t *tag) FTY_API_NOEXCEPT;
+
+/**
+ * Checks a tag, and stores nothing if it is valid. Fails by FTY_TAG_LENGTH for four
+ * spaces; else by FTY_TAG_BYTE or FTY_TAG_AFTER_SPACE, by what is wrong with the first
+ * invalid byte, whose index, 0 to 3, is stored.
+ */
+FTY_API_MUST_USE fty_status fty_tag_validate(uint32_t tag, uint32_t *position) FTY_API_NOEXCEPT;
+
+/**
+ * Writes the text of a tag: bytes 0x20 to 0x7E as they are, else {0xNN}.
+ * Fails by FTY_BUFFER_TOO_SMALL.
+ */
+FTY_API_MUST_USE fty_status fty_tag_to_text(
+    uint32_t tag, char *out, size_t room, size_t *length) FTY_API_NOEXCEPT;
+
+/* ---- statuses and the version ---- */
+
 /** The meaning of a status, in words. */
 FTY_API_INLINE const char *fty_status_text(fty_status status) FTY_API_NOEXCEPT {
     switch (status) {
@@ -1009,6 +1023,13 @@ FTY_API_INLINE const char *fty_status_text(fty_status status) FTY_API_NOEXCEPT {
     }
     return "unknown status";
 }
+
+/** The version of the linked library, as FTY_VERSION_NUMBER. */
+FTY_API_PURE uint32_t fty_version(void) FTY_API_NOEXCEPT;
+
+#ifdef __cplusplus
+}
+#endif
 
 /** @cond */
 #if defined(__cplusplus) || (defined(__STDC_VERSION__) && __STDC_VERSION__ >= 201112L)

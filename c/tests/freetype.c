@@ -1,7 +1,7 @@
 /*
- * Compares the library, by the lines of README.md and what its table names, with FreeType over a
- * million random inputs a function. FreeType's FT_Long has 64 bits on most systems, so results are
- * compared modulo 2^32.
+ * Compares the library with FreeType, by the table of README.md, over a million random inputs a
+ * function. FreeType's FT_Long has 64 bits on most systems, so results are compared modulo 2^32,
+ * except that of fty_mul_div_i64.
  */
 #include "font_types.h"
 
@@ -10,6 +10,11 @@
 #include <freetype/ftoutln.h>
 #include <stdio.h>
 #include <stdlib.h>
+
+/* As in FreeType's ftobjs.h, which it does not install. */
+#define FT_PIX_FLOOR(x) ((x) & ~63)
+#define FT_PIX_ROUND(x) FT_PIX_FLOOR((x) + 32)
+#define FT_PIX_CEIL(x) FT_PIX_FLOOR((x) + 63)
 
 enum { ROUNDS = 1000000 };
 
@@ -67,10 +72,14 @@ int main(int count, char **arguments) {
         check("mul", fty_fixed_mul(x, y), FT_MulFix(x, y), x, y, 0);
         check("div", fty_fixed_div(x, y), FT_DivFix(x, y), x, y, 0);
         check("mul_div", fty_fixed_mul_div(x, y, z), FT_MulDiv(x, y, z), x, y, z);
-#include "freetype.inc"
-        check("ceil", ceiling, FT_CeilFix(x), x, 0, 0);
-        check("round", rounded, FT_RoundFix(x), x, 0, 0);
-        check("floor", largest, FT_FloorFix(x), x, 0, 0);
+        if (FT_MulDiv(x, y, z) != fty_mul_div_i64(x, y, z))
+            check("mul_div of 64 bits", 1, 0, x, y, z);
+        check("ceil", fty_fixed_ceil(x), FT_CeilFix(x), x, 0, 0);
+        check("round", fty_fixed_round_away(x), FT_RoundFix(x), x, 0, 0);
+        check("floor", fty_fixed_floor(x), FT_FloorFix(x), x, 0, 0);
+        check("pixel ceil", fty_f26dot6_ceil(x), FT_PIX_CEIL((FT_Pos)x), x, 0, 0);
+        check("pixel round", fty_f26dot6_round(x), FT_PIX_ROUND((FT_Pos)x), x, 0, 0);
+        check("pixel floor", fty_f26dot6_floor(x), FT_PIX_FLOOR((FT_Pos)x), x, 0, 0);
         check_outline(x, y);
         FT_Matrix a = {any(), any(), any(), any()}, b = {any(), any(), any(), any()};
         fty_matrix m = {(int32_t)a.xx, (int32_t)a.yx, (int32_t)a.xy, (int32_t)a.yy, 0, 0};

@@ -16,7 +16,14 @@ fails grep -v "@@FONT_TYPES_$version\$" <<<"$exported"
 [[ $(names <<<"$exported") == "$exports" ]]
 cc -std=c99 -Iinclude -c tests/table.c -o "$work/table.o"
 [[ $(nm -u "$work/table.o" | names) == "$exports" ]]
+# The head of the header lists each, as in C or as a call of the library.
+listed() {
+    eval "printf '%s\n' $(sed -n "/^ \* $1/,/^ \* $2/p" include/font_types.h |
+        grep -o 'fty_[a-z0-9_{},]*' | tr '\n' ' ')" | sort -u
+}
 calling=$(printf '%s\n' fty_{fixed,f2dot14,f26dot6}_{parse,format,format_padded} | sort)
+[[ $(listed 'In C, in' 'Calls of') == $(comm -23 <(echo "$inline") <(echo "$calling")) ]]
+[[ $(listed 'Calls of' 'Each function') == $(sort <<<"$declared"$'\n'"$calling") ]]
 # Their types are those of the Rust that is compiled. An enum is returned as 32 bits.
 in_c=$(grep -oE '[a-z0-9_]+ fty_[a-z0-9_]+\([^()]*\) noexcept *[;{]' <<<"$text" |
     grep -E ";\$|($(paste -sd '|' <<<"$both"))\(" | sed -E '
@@ -116,10 +123,15 @@ fi
 cc -std=c11 -fshort-enums $strict tests/table.c "$archive" -o "$work/table"
 run "$work/table"
 
-# It compiles with a caller's warnings, and for 32 bits.
+# It compiles with a caller's warnings, and for 32 bits; and what is in C links without the library.
 echo '#include "font_types.h"' >"$work/alone.c"
+cat "$work/alone.c" - >"$work/linked.c" <<'C'
+int main(void) { return fty_fixed_mul(fty_u16(fty_absent(), 0), 7); }
+C
 for compiler in gcc clang; do
     if command -v "$compiler" >/dev/null; then
+        $compiler -O0 -Iinclude "$work/linked.c" -o "$work/linked"
+        "$work/linked"
         $compiler -std=c99 $warnings -Iinclude -fsyntax-only "$work/alone.c"
         $compiler -std=c++11 $warnings -Wold-style-cast -Wzero-as-null-pointer-constant \
             -Iinclude -fsyntax-only -x c++ "$work/alone.c"

@@ -59,7 +59,6 @@ links_freetype() {
         cc -x c - $(pkg-config --libs freetype2) -o "$work/linked" <<<'int main(void) {}'
 }
 if ! fails links_freetype; then
-    lines c 'From FreeType' >"$work/freetype.inc"
     sed -n 's/^| `FT_Matrix_Multiply(&a, &b)` | `\(.*\)` | .*/\1;/p' README.md >"$work/multiply.inc"
     cc -O2 -Iinclude "-I$work" $(pkg-config --cflags freetype2) tests/freetype.c "$archive" \
         $(pkg-config --libs freetype2) -o "$work/freetype"
