@@ -12,10 +12,14 @@ if command -v cmake >/dev/null; then
         echo 'add_executable(reader ../c/examples/example.c)'
         lines cmake 'Build and link'
     } >"$work/cmake/CMakeLists.txt"
-    "${empty[@]}" PKG_CONFIG_PATH="$PKG_CONFIG_PATH" CC="${CC:-cc}" \
-        bash -euc 'cmake -S "$1" -B "$1/build" && cmake --build "$1/build"' - "$work/cmake" \
-        >"$work/log"
+    with_cmake=("${empty[@]}" CC="${CC:-cc}" cmake "-DCMAKE_PREFIX_PATH=$root" -S "$work/cmake")
+    "${with_cmake[@]}" -B "$work/cmake/build" >"$work/log"
+    cmake --build "$work/cmake/build" >"$work/log"
     [[ $("${empty[@]}" "$work/cmake/build/reader") == "$shown" ]]
+    # Another version is not found.
+    sed -i "s/font_types $version /font_types 0.6 /" "$work/cmake/CMakeLists.txt"
+    fails "${with_cmake[@]}" -B "$work/cmake/other"
+    grep 'font_types-config.cmake, version: ' "$work/log" >/dev/null
 else
     echo "left out: the reader that cmake builds"
 fi

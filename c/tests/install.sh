@@ -1,13 +1,15 @@
 # What is installed, by the Makefile's variables, and which versions a process can load.
 
-# What is staged for a package: its folders, below a prefix that is a link; modes and links; and a
-# font_types.pc that does not name DESTDIR.
+# What is staged for a package: its folders, below a prefix that is a link; modes and links; and
+# files for pkg-config and cmake that do not name DESTDIR.
 mkdir "$work/real"
 ln -s real "$work/link"
 (umask 077 && make -s install DESTDIR="$work/stage" PREFIX="$work/link" \
     LIBDIR="$work/link/lib/x" INCLUDEDIR="$work/inc" CARGO=false)
 found=$(cd "$work/stage$work" && find . \( -type f -o -type l \) -printf '%P %m %l\n' | sort)
 [[ $found == "inc/font_types.h 644 
+link/lib/x/cmake/font_types/font_types-config-version.cmake 644 
+link/lib/x/cmake/font_types/font_types-config.cmake 644 
 link/lib/x/libfont_types.a 644 
 link/lib/x/libfont_types.so 777 libfont_types.so.$version
 link/lib/x/libfont_types.so.$version 777 libfont_types.so.$version.0
@@ -21,19 +23,22 @@ staged=$work/stage$work/link/lib/x/pkgconfig
 [[ $(sed 3q "$PKG_CONFIG_PATH/font_types.pc") == \
     "prefix=$root"$'\nlibdir=${prefix}/lib\nincludedir=${prefix}/include' ]]
 
-# Folders, of the environment, with letters that sed replaces and pkg-config quotes; and another
-# version.
+# Folders, of the environment, with letters that sed replaces and pkg-config and cmake quote; and
+# another version.
 odd="$work/a&b|c d\\e"
 PREFIX="$odd" INCLUDEDIR="$odd/inc" make -s install
 [[ $(sed 2q "$odd/lib/pkgconfig/font_types.pc") == "prefix=$odd"$'\nlibdir=${prefix}/lib' ]]
 eval "flags=($(PKG_CONFIG_PATH="$odd/lib/pkgconfig" pkg-config --cflags --libs font_types))"
 [[ ${flags[0]} == "-I$odd/inc" && ${flags[1]} == "-L$odd/lib" ]]
+[[ $(<"$odd/lib/cmake/font_types/font_types-config.cmake") == \
+    *" [[$odd/lib/libfont_types.so]]"*" [[$odd/inc]])" ]]
 sed -i.kept 's/^version = .*/version = "9.8.7"/' Cargo.toml
 LIBDIR='/a&b|c' make -s install DESTDIR="$work/next" PREFIX=/usr
 mv Cargo.toml.kept Cargo.toml
 [[ -e "$work/next/a&b|c/libfont_types.so.9.8.7" && -L "$work/next/a&b|c/libfont_types.so.9.8" ]]
 [[ $(grep 'libdir=\|Version' "$work/next/a&b|c/pkgconfig/font_types.pc") == \
     $'libdir=/a&b|c\nVersion: 9.8.7' ]]
+grep 'N 9.8.7)$' "$work/next/a&b|c/cmake/font_types/font_types-config-version.cmake" >/dev/null
 
 # The tools that variables name, and the folders that are removed.
 commands=$(CARGO=a-cargo CARGOFLAGS=--a-flag CC=a-cc LDFLAGS=--b-flag AR=an-ar BUILD=a-folder \
