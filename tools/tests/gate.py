@@ -22,7 +22,7 @@ TOOLS, TOOLS_FOR_C = (
 SYSTEM = "bash sh env basename cat cmp cp dirname grep mktemp paste rm sed tail tee wc"
 
 # Faults, beside a call that fails, with which the gate fails, and what others leave out.
-FAULTS = "test 1,test 2,early answer,message,answers,bad edit,status of ci,argument".split(",")
+FAULTS = "test 1,test 2,early answer,message,answers,bad edit,status of ci,argument,tests".split(",")
 FETCH = "cargo fetch --quiet --manifest-path compare/Cargo.toml"
 LEFT_OUT = {"crate": "nothing", "--anew": "nothing", "freetype": "FreeType", "rustc": "MIR"}
 LEFT_OUT[FETCH] = "the comparison with font-types, which cargo cannot fetch"
@@ -45,6 +45,7 @@ case $call in
     [ "$FAIL" != "early answer" ] || echo 0
     printf 'refused\nfontval: %s\n' "$([ "$FAIL" = message ] || echo memory)" >&2
     [ "$REFUSE" != 1 ] ;;
+"python3 -B"*) [ "$FAIL" = tests ] || echo "Ran 1 tests in 0s" ;;
 "fontval --help")
     echo "fontval: takes no arguments."
     [ "$FAIL" = argument ] || exit 2 ;;
@@ -71,6 +72,7 @@ class Gate(unittest.TestCase):
         for name in SYSTEM.split():
             (self.folder / "bin" / name).symlink_to(shutil.which(name))
         self.put("src/lib.rs", "")
+        self.put("tools/tests/one.py", "    def test_one(self):\n")
         self.put("crates/font_types/out/rlib/old", "")
 
     def put(self, path, text):
