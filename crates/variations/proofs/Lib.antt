@@ -1,4 +1,5 @@
 pub mod Fractions
 pub mod Lerps
 pub mod Segments
+pub mod Scalars
 pub mod Stores

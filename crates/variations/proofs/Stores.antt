@@ -10,6 +10,7 @@ use Rattle.variations.specs.Variations.{exact_delta, sum_halves, sum_of_magnitud
 use Rattle.variations.specs.Variations.{region_index_count, axis_count, delta_of, moved, exact_region_scalar, HasRegion}
 use Rattle.variations.specs.Variations.{region_offset, delta_place, column_place, AreScalars, IsRegionScalar, HasRow}
 use Rattle.variations.specs.Variations.{HasDelta, word_delta_count}
+use Rattle.variations.proofs.Scalars.{scalar_is, scalar_at}
 use Rattle.variations.proofs.Fractions.{IsPartOff, off_by, axis_off, next_axis_off, first_axis_off, plus_off}
 use Rattle.variations.proofs.Fractions.{scaled_off, whole_off, rounded_off}
 
@@ -161,7 +162,8 @@ are_scalars regions coordinates n m scalars is room each there low high last =
     let len : length (take n scalars) ≡ n = grind (arith, common_steps, room) in
     let short : (r : ℕ) → r < length (take n scalars) → r < n = λ r within. omega (arith, len, within) in
     rw is (record {
-      each = λ r d within. rw (get_or-take n scalars r d (short r within)) (each r d (short r within));
+      each = λ r d within. rw (get_or-take n scalars r d (short r within)) (scalar_is (region_bytes regions r)
+          coordinates (axis_count regions) _ (each r d (short r within)));
       are_there = λ r within. there r (short r within);
       all = λ r has. omega (arith, len, below_last regions r n has last);
       low = λ r d within. rw (get_or-take n scalars r d (short r within)) (low r d (short r within));
@@ -182,4 +184,4 @@ row_of_delta subtable set column has =
       bytes = omega (arith, place, has.bytes);
     }
 
-pub ruleset row_rules = (region_at_most, place_in_row, row_of_delta)
+pub ruleset row_rules = (region_at_most, place_in_row, row_of_delta, scalar_at)

@@ -1,4 +1,3 @@
 pub mod Advances
 pub mod Evaluator
-pub mod Instances
 pub mod Variations

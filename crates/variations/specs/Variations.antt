@@ -5,7 +5,7 @@ use Rattle.std.specs.Prelude.{nat_eq, if◌then◌else◌, Bool, ◌&&◌, ◌||
 use Rattle.std.specs.Ordering.{int_eq}
 use Rattle.font_types.specs.F2Dot14.{f2dot14_bits, f2dot14_of, F2Dot14}
 use Rattle.font_types.specs.{Bytes.numeral, Bytes.signed_numeral, Operations.IsProduct, Operations.IsQuotient}
-use Rattle.font_types.specs.{Fixed.fixed_bits, Fixed.Fixed, FWord.nearest_unit}
+use Rattle.font_types.specs.{Fixed.fixed_bits, Fixed.Fixed, FWord.nearest_unit, Wrap.wrap, Near.near}
 
 -- ---- the scalar of an axis ("Algorithm for interpolation of instance values"): coordinates are raw values of 2.14,
 -- and the scalar is one of 16.16
@@ -78,10 +78,41 @@ abbrev pub IsRegionScalar : List ℕ → ℕ → List F2Dot14 → ℤ → Type 0
 IsRegionScalar regions region coordinates scalar =
     IsScalarOf (region_bytes regions region) coordinates (axis_count regions) scalar
 
+-- ---- the same scalars as functions
+
+-- whether the axis is ignored, as `IsIgnored` has it
+abbrev pub is_ignored_axis : ℤ → ℤ → ℤ → Bool
+is_ignored_axis start peak end =
+    int_lt peak start || (int_lt end peak || ((int_lt start (pos 0) && int_lt (pos 0) end) || int_eq peak (pos 0)))
+
+-- the quotient of the raw values x and y of 16.16, for 0 < y
+abbrev pub quotient : ℤ → ℤ → ℤ
+quotient x y = wrap 32 (near (x *ℤ pos 65536) (unsigned_abs y))
+
+-- the scalar of an axis
+unfoldable pub axis_scalar : ℤ → ℤ → ℤ → ℤ → ℤ
+axis_scalar start peak end coordinate =
+    if is_ignored_axis start peak end || int_eq coordinate peak then pos 65536
+    else (if int_le coordinate start || int_le end coordinate then pos 0
+    else (if int_lt coordinate peak then quotient (coordinate -ℤ start) (peak -ℤ start)
+    else quotient (end -ℤ coordinate) (end -ℤ peak)))
+
+-- the product of the scalars along the first n axes, rounded after each
+unfoldable pub scalar_of : List ℕ → List F2Dot14 → ℕ → ℤ
+scalar_of region coordinates zero = pos 65536
+scalar_of region coordinates (suc n) = wrap 32 (near (scalar_of region coordinates n *ℤ
+    axis_scalar (stored_bits region (6 * n)) (stored_bits region (6 * n + 2)) (stored_bits region (6 * n + 4))
+    (coordinate_bits coordinates n)) 65536)
+
+-- the scalar of a region of a list
+abbrev pub region_scalar : List ℕ → ℕ → List F2Dot14 → ℤ
+region_scalar regions region coordinates =
+    scalar_of (region_bytes regions region) coordinates (axis_count regions)
+
 -- the scalars of all regions of a list, in order
 pub record AreScalars (regions : List ℕ) (coordinates : List F2Dot14) (scalars : List Fixed) : Type 0 where
   pub each : (region : ℕ) (d : Fixed) → region < length scalars
-      → IsRegionScalar regions region coordinates (fixed_bits (slice_index_or scalars region d))
+      → fixed_bits (slice_index_or scalars region d) ≡ region_scalar regions region coordinates
   pub are_there : (region : ℕ) → region < length scalars → HasRegion regions region
   pub all : (region : ℕ) → HasRegion regions region → region < length scalars
   pub low : (region : ℕ) (d : Fixed) → region < length scalars → pos 0 ≤ℤ fixed_bits (slice_index_or scalars region d)
@@ -116,11 +147,6 @@ pub record IsOffBy (halves : ℕ) (raw : ℤ) (exact : Fraction) : Type 0 where
   pub some : 0 < exact.denominator
   pub close : 2 * unsigned_abs (raw *ℤ pos exact.denominator -ℤ exact.numerator *ℤ pos 65536)
       ≤ halves * exact.denominator
-
--- whether the axis is ignored, as `IsIgnored` has it
-abbrev pub is_ignored_axis : ℤ → ℤ → ℤ → Bool
-is_ignored_axis start peak end =
-    int_lt peak start || (int_lt end peak || ((int_lt start (pos 0) && int_lt (pos 0) end) || int_eq peak (pos 0)))
 
 -- the scalar of an axis: 1 if the axis is ignored, and at the peak; else 0 if the coordinate is out of range; else the
 -- part of the way from the start up to the peak, or from the end down to it

@@ -5,11 +5,10 @@ ghost use Rattle.std.specs.Prelude.{IsSome, IfSome, MatchOption, length, take, d
 ghost use Rattle.font_types.specs.Fixed;
 ghost use Rattle.font_types.specs.{Fixed.fixed_bits, F48Dot16.f48dot16_bits, FWord.ufword_number};
 ghost use Rattle.variations.specs.Advances.{HasTarget, HasData, regions_of, subtable_of};
-ghost use Rattle.variations.specs.Instances.{IsAt};
 ghost use Rattle.variations.specs.Variations.{HasRegion, IsRegionScalar, HasRow, row_bytes};
 ghost use Rattle.variations.specs.Variations.{word_delta_count, region_index_count, IsNoVariation};
 ghost use Rattle.variations.specs.Variations.{HasNoVaried, HasSet, IsVaried, HasTerm, IsTerm};
-ghost use Rattle.variations.specs.Variations.{IsSetSum, IsNearSetSum, IsNearAdvance};
+ghost use Rattle.variations.specs.Variations.{IsSetSum, IsNearSetSum, IsNearAdvance, AreScalars};
 
 use crate::advances::{at_offset, data_of};
 use crate::delta_sets::{column_in, row_of};
@@ -37,6 +36,7 @@ pub struct StoreInstance<'a> {
     store: &'a [u8],
     coordinates: &'a [F2Dot14],
     scalars: &'a [Fixed],
+    ghost at: { AreScalars (regions_of store.now) coordinates.now scalars.now },
 }
 
 impl<'a> StoreInstance<'a> {
@@ -53,7 +53,6 @@ impl<'a> StoreInstance<'a> {
         ensures store { IfSome result (λ instance. instance.store.now ≡ store.now) }
         ensures coordinates { IfSome result (λ instance.
             instance.coordinates.now ≡ coordinates.now) }
-        ensures scalars { IfSome result (λ instance. IsAt instance) }
     {
         let regions = at_offset(store, 2)?;
         let count = region_scalars(regions, coordinates, scalars)?;
@@ -76,8 +75,8 @@ impl<'a> StoreInstance<'a> {
 
     /// Returns the scalar of a region, as [`region_scalar`](crate::regions::region_scalar) does.
     #[must_use]
+    #[tactic(auto, using(font_types::proofs::Callers::calls, crate::proofs::Stores::row_rules))]
     pub fn scalar(&self, region: u16) -> Option<Fixed>
-        requires at { IsAt self.now }
         ensures variant { IsSome result ↔ HasRegion (regions_of self.now.store.now) region }
         ensures value { IfSome result (λ scalar. IsRegionScalar (regions_of self.now.store.now)
             region self.now.coordinates.now (fixed_bits scalar)) }
@@ -96,7 +95,6 @@ impl<'a> StoreInstance<'a> {
         set: u16,
         column: u16,
     ) -> Option<(Fixed, i32)>
-        requires at { IsAt self.now }
         requires set { HasRow subtable.now set }
         requires row { row.now ≡ row_bytes subtable.now set }
         requires words { words ≡ word_delta_count subtable.now }
@@ -116,7 +114,6 @@ impl<'a> StoreInstance<'a> {
     // Returns the exact sum of the deltas of a set, each times the scalar of its region.
     #[tactic(auto, using(font_types::proofs::Callers::calls, crate::proofs::Stores::sum_rules))]
     fn sum(&self, subtable: &[u8], set: u16) -> Option<F48Dot16>
-        requires at { IsAt self.now }
         ensures variant { IsSome result ↔ HasSet (regions_of self.now.store.now) subtable.now set }
         ensures value { IfSome result (λ sum. IsSetSum (regions_of self.now.store.now) subtable.now
             self.now.coordinates.now set (f48dot16_bits sum)) }
@@ -143,7 +140,6 @@ impl<'a> StoreInstance<'a> {
     /// set without variation data, and `None` if the store does not have the set.
     #[must_use]
     pub fn delta(&self, set: DeltaSetIndex) -> Option<F48Dot16>
-        requires at { IsAt self.now }
         ensures unvaried { IsNoVariation set.outer set.inner
             → IfSome result (λ sum. f48dot16_bits sum ≡ pos 0) }
         ensures variant { ¬ IsNoVariation set.outer set.inner → IsSome result
@@ -165,7 +161,6 @@ impl<'a> StoreInstance<'a> {
 
     // Adds the sum of a set to an advance and rounds once.
     fn vary(&self, advance: UfWord, subtable: &[u8], set: u16) -> Option<UfWord>
-        requires at { IsAt self.now }
         ensures value { MatchOption result (HasNoVaried (regions_of self.now.store.now)
             subtable.now self.now.coordinates.now set (ufword_number advance))
             (λ varied. HasSet (regions_of self.now.store.now) subtable.now set
@@ -182,7 +177,6 @@ impl<'a> StoreInstance<'a> {
     /// coordinates.
     #[must_use]
     pub fn varied(&self, advance: UfWord, set: DeltaSetIndex) -> Option<UfWord>
-        requires at { IsAt self.now }
         ensures unvaried { IsNoVariation set.outer set.inner → result ≡ Some advance }
         ensures value { ¬ IsNoVariation set.outer set.inner → MatchOption result
             ((¬ HasData self.now.store.now set.outer set.inner) ⊎ HasNoVaried

@@ -1,0 +1,179 @@
+-- The scalar of a region has one value, which the functions give.
+use Rattle.std.proofs.Common.{◌≡◌, ◌≢◌, refl, lit<, ℕ, zero, suc, ◌+◌, ◌*◌, ◌<◌, ◌⊎◌, Bool, true, false, ℤ, pos, negsuc}
+use Rattle.std.proofs.Common.{◌-ℤ◌, ◌*ℤ◌, ◌≤ℤ◌, ◌<ℤ◌, int_lt, int_le, arith, Decides, List, length, get_or, ⊎_elim, inl}
+use Rattle.std.proofs.Common.{inr, if◌then◌else◌, ◌||◌}
+use Rattle.std.proofs.lemmas.Int.{ints, by_lt_z}
+use Rattle.std.proofs.lemmas.Bool.Decides.{Decides-or, Decides-int_eq, not_from_Decides}
+use Rattle.std.specs.Ordering.{int_eq}
+use Rattle.font_types.specs.{Operations.IsQuotient, Near.near, F2Dot14.F2Dot14, Fixed.Fixed, Fixed.fixed_bits}
+use Rattle.font_types.proofs.Callers.{near_is}
+use Rattle.variations.specs.Variations.{IsIgnored, IsOffRegion, IsAxisScalar, is_ignored_axis, quotient, axis_scalar}
+use Rattle.variations.specs.Variations.{IsScalarOf, scalar_of, stored_bits, coordinate_bits, AreScalars, IsRegionScalar}
+use Rattle.variations.specs.Variations.{region_bytes, axis_count}
+
+-- ---- a quotient
+
+quotient_is : (x y r : ℤ) → pos 0 <ℤ y → IsQuotient 32 16 x y r → r ≡ quotient x y
+quotient_is x (pos zero) r some given = absurd (omega (arith, ints, some))
+quotient_is x (pos (suc c)) r some given = given.is
+quotient_is x (negsuc c) r some given = absurd (omega (arith, ints, some))
+
+quotient_gives : (x y : ℤ) → pos 0 <ℤ y → IsQuotient 32 16 x y (quotient x y)
+quotient_gives x (pos zero) some = absurd (omega (arith, ints, some))
+quotient_gives x (pos (suc c)) some = record {
+  rounded = near (x *ℤ pos 65536) (suc c);
+  nearest = near_is (x *ℤ pos 65536) (suc c) (omega arith);
+  wrapped = refl;
+  is = refl;
+}
+quotient_gives x (negsuc c) some = absurd (omega (arith, ints, some))
+
+-- ---- one axis
+
+less : (a b : ℤ) → Decides (int_lt a b) (a <ℤ b)
+less a b = (λ e. grind (arith, ints), λ h. grind (arith, ints))
+
+at_most : (a b : ℤ) → Decides (int_le a b) (a ≤ℤ b)
+at_most a b = (λ e. grind (arith, ints), λ h. grind (arith, ints))
+
+module _ (start peak end coordinate : ℤ) where
+  ignored : Decides (is_ignored_axis start peak end) (IsIgnored start peak end)
+  ignored = grind arith
+
+  at_one : Decides (is_ignored_axis start peak end || int_eq coordinate peak)
+      (IsIgnored start peak end ⊎ (coordinate ≡ peak))
+  at_one = Decides-or _ _ ignored (Decides-int_eq coordinate peak)
+
+  off : Decides (int_le coordinate start || int_le end coordinate) (IsOffRegion start end coordinate)
+  off = Decides-or _ _ (at_most coordinate start) (at_most end coordinate)
+
+  -- a peak that is not ignored is between start and end
+  peak_low : ¬ IsIgnored start peak end → start ≤ℤ peak
+  peak_low kept = by_lt_z peak start (λ h. absurd (kept (inl h))) (λ h. h)
+
+  peak_high : ¬ IsIgnored start peak end → peak ≤ℤ end
+  peak_high kept = by_lt_z end peak (λ h. absurd (kept (inr (inl h)))) (λ h. h)
+
+  -- the coordinate is inside of the region, and after the peak if it is not before it
+  inside_low : ¬ IsOffRegion start end coordinate → start <ℤ coordinate
+  inside_low inside = by_lt_z start coordinate (λ h. h) (λ h. absurd (inside (inl h)))
+
+  inside_high : ¬ IsOffRegion start end coordinate → coordinate <ℤ end
+  inside_high inside = by_lt_z coordinate end (λ h. h) (λ h. absurd (inside (inr h)))
+
+  after_peak : coordinate ≢ peak → ¬ (coordinate <ℤ peak) → peak <ℤ coordinate
+  after_peak other kept = by_lt_z peak coordinate (λ h. h)
+      (λ h. absurd (other (omega (arith, ints, h, by_lt_z coordinate peak (λ l. absurd (kept l)) (λ l. l)))))
+
+  abbrev value : Bool → Bool → Bool → ℤ
+  value one outside rising = if one then pos 65536 else (if outside then pos 0
+      else (if rising then quotient (coordinate -ℤ start) (peak -ℤ start)
+      else quotient (end -ℤ coordinate) (end -ℤ peak)))
+
+  is_value : (raw : ℤ) → IsAxisScalar start peak end coordinate raw → (one outside rising : Bool)
+      → (is_ignored_axis start peak end || int_eq coordinate peak) ≡ one
+      → (int_le coordinate start || int_le end coordinate) ≡ outside → int_lt coordinate peak ≡ rising
+      → raw ≡ value one outside rising
+  is_value raw given true outside rising one _ _ = ⊎_elim given.ignored given.at_peak (at_one.0 one)
+  is_value raw given false true rising one outside _ =
+      let away = not_from_Decides _ at_one one in
+      given.outside (λ i. away (inl i)) (λ e. away (inr e)) (off.0 outside)
+  is_value raw given false false true one outside up_to =
+      let away = not_from_Decides _ at_one one in
+      let after = inside_low (not_from_Decides _ off outside) in
+      let before : coordinate <ℤ peak = (less coordinate peak).0 up_to in
+      quotient_is (coordinate -ℤ start) (peak -ℤ start) raw (omega (arith, ints, after, before))
+      (given.rising (λ i. away (inl i)) after before)
+  is_value raw given false false false one outside up_to =
+      let away = not_from_Decides _ at_one one in
+      let before = inside_high (not_from_Decides _ off outside) in
+      let after = after_peak (λ e. away (inr e)) (not_from_Decides _ (less coordinate peak) up_to) in
+      quotient_is (end -ℤ coordinate) (end -ℤ peak) raw (omega (arith, ints, after, before))
+      (given.falling (λ i. away (inl i)) after before)
+
+  gives_value : (one outside rising : Bool) → (is_ignored_axis start peak end || int_eq coordinate peak) ≡ one
+      → (int_le coordinate start || int_le end coordinate) ≡ outside → int_lt coordinate peak ≡ rising
+      → IsAxisScalar start peak end coordinate (value one outside rising)
+  gives_value true outside rising one _ _ =
+      let here = at_one.0 one in
+      record {
+        ignored = λ i. refl;
+        at_peak = λ e. refl;
+        outside = λ kept other away. absurd (⊎_elim kept other here);
+        rising = λ kept after before. absurd (⊎_elim kept (λ e. omega (arith, ints, e, before)) here);
+        falling = λ kept after before. absurd (⊎_elim kept (λ e. omega (arith, ints, e, after)) here);
+      }
+  gives_value false true rising one outside _ =
+      let away = not_from_Decides _ at_one one in
+      let here = off.0 outside in
+      record {
+        ignored = λ i. absurd (away (inl i));
+        at_peak = λ e. absurd (away (inr e));
+        outside = λ kept other away. refl;
+        rising = λ kept after before. absurd (⊎_elim (λ h. omega (arith, ints, h, after))
+            (λ h. omega (arith, ints, h, before, peak_high kept)) here);
+        falling = λ kept after before. absurd (⊎_elim (λ h. omega (arith, ints, h, after, peak_low kept))
+            (λ h. omega (arith, ints, h, before)) here);
+      }
+  gives_value false false true one outside up_to =
+      let away = not_from_Decides _ at_one one in
+      let inside = not_from_Decides _ off outside in
+      let first : coordinate <ℤ peak = (less coordinate peak).0 up_to in
+      record {
+        ignored = λ i. absurd (away (inl i));
+        at_peak = λ e. absurd (away (inr e));
+        outside = λ kept other off. absurd (inside off);
+        rising = λ kept after before. quotient_gives (coordinate -ℤ start) (peak -ℤ start)
+            (omega (arith, ints, after, before));
+        falling = λ kept after before. absurd (omega (arith, ints, after, first));
+      }
+  gives_value false false false one outside up_to =
+      let away = not_from_Decides _ at_one one in
+      let inside = not_from_Decides _ off outside in
+      let no_less = not_from_Decides _ (less coordinate peak) up_to in
+      record {
+        ignored = λ i. absurd (away (inl i));
+        at_peak = λ e. absurd (away (inr e));
+        outside = λ kept other off. absurd (inside off);
+        rising = λ kept after before. absurd (no_less before);
+        falling = λ kept after before. quotient_gives (end -ℤ coordinate) (end -ℤ peak)
+            (omega (arith, ints, after, before));
+      }
+
+axis_is : (start peak end coordinate raw : ℤ) → IsAxisScalar start peak end coordinate raw
+    → raw ≡ axis_scalar start peak end coordinate
+unfolding axis_scalar
+axis_is start peak end coordinate raw given = is_value start peak end coordinate raw given _ _ _ refl refl refl
+
+axis_gives : (start peak end coordinate : ℤ)
+    → IsAxisScalar start peak end coordinate (axis_scalar start peak end coordinate)
+unfolding axis_scalar
+axis_gives start peak end coordinate = gives_value start peak end coordinate _ _ _ refl refl refl
+
+-- ---- all axes
+
+pub scalar_is : (region : List ℕ) (coordinates : List F2Dot14) (n : ℕ) (scalar : ℤ)
+    → IsScalarOf region coordinates n scalar → scalar ≡ scalar_of region coordinates n
+unfolding IsScalarOf scalar_of
+scalar_is region coordinates zero scalar is = is
+scalar_is region coordinates (suc n) scalar (before, along, so_far, next, product) =
+    rw (scalar_is region coordinates n before so_far, axis_is _ _ _ _ along next) at product.is
+
+scalar_gives : (region : List ℕ) (coordinates : List F2Dot14) (n : ℕ)
+    → IsScalarOf region coordinates n (scalar_of region coordinates n)
+unfolding IsScalarOf scalar_of
+scalar_gives region coordinates zero = refl
+scalar_gives region coordinates (suc n) = (
+  scalar_of region coordinates n,
+  axis_scalar (stored_bits region (6 * n)) (stored_bits region (6 * n + 2)) (stored_bits region (6 * n + 4))
+      (coordinate_bits coordinates n),
+  scalar_gives region coordinates n,
+  axis_gives _ _ _ _,
+  record { rounded = near _ 65536; nearest = near_is _ 65536 (lit< tt); wrapped = refl; is = refl },
+)
+
+pub scalar_at : (regions : List ℕ) (coordinates : List F2Dot14) (scalars : List Fixed) (region : ℕ) (d : Fixed)
+    → AreScalars regions coordinates scalars → region < length scalars
+    → IsRegionScalar regions region coordinates (fixed_bits (get_or scalars region d))
+scalar_at regions coordinates scalars region d are within = rw (are.each region d within)
+    (scalar_gives (region_bytes regions region) coordinates (axis_count regions))
