@@ -42,10 +42,10 @@
  * infinity; "half away from zero" to the greater magnitude.
  *
  * A function that can fail returns a fty_status, and stores its result where its last
- * argument points; what writes text stores the text at `out`, and its length there. If
- * two errors apply, the status is the first that the comment lists. If a function fails,
- * it leaves all memory unchanged, except that fty_tag_validate stores the index of the
- * invalid byte.
+ * argument points; what writes text stores the text at `out`, and its length there; a
+ * fty_write function stores bytes in its array. If two errors apply, the status is the
+ * first that the comment lists. If a function fails, it leaves all memory unchanged,
+ * except that fty_tag_validate stores the index of the invalid byte.
  *
  * Pointers must be valid for the length that goes with them (1 for a single value),
  * aligned, and not null, even if the call fails. A pointer whose length is 0 may be
