@@ -1,6 +1,6 @@
 /*
  * States what each function that the header has in C returns and writes. CBMC proves it for every
- * argument and every view of up to 2^48 bytes, and that nothing beyond a view is touched and
+ * argument and every view of less than 2^48 bytes, and that nothing beyond a view is touched and
  * nothing overflows: header.sh has the command.
  *
  * A compiler's program, in C and C++, tries values of OpenType, ends, ties and random arguments,
