@@ -7,6 +7,8 @@ import sys
 import tempfile
 from pathlib import Path
 
+sys.path.append(str(Path(__file__).resolve().parents[1]))
+import edits
 from compare import compare, read
 from packages import Sources
 from rust import PLACE
@@ -14,7 +16,6 @@ from rust import PLACE
 # What cargo needs of the repository.
 NEEDED = ("Cargo.toml", "Cargo.lock", "src", "examples", "c", "variations")
 
-EDIT = re.compile(r"^old: (.*)\nnew: (.*)$", re.M)
 # How many edits have no place in the Rust, such as those of ghost items and of whole `impl`s.
 NOWHERE, HOW_MANY = "change what is in no function of the Rust", 5
 
@@ -27,18 +28,18 @@ class Edit:
     """An edit of a file of Rattle: where it changes the Rust, and the keys of which functions; or
     why it has no place there."""
 
-    def __init__(self, path, sources):
-        text, crate = path.read_text(), path.parts[-3]
-        self.name, self.changes, self.keys, self.reason = f"{crate}/{path.stem}", [], set(), None
-        self.file = sources.files.get(f"{crate}/{re.search('^file: (.*)', text, re.M)[1]}")
+    def __init__(self, edit, sources, root):
+        crate = edit.path.parts[-3]
+        self.name, self.changes, self.keys, self.reason = edit.name, [], set(), None
+        self.file = sources.files.get(str(edit.file.relative_to(root / "crates")))
         if not self.file:
             self.reason = f"change a file of {crate} whose MIR is not compared"
             return
         self.source, self.module = "\n".join(sources.lines[self.file]), sources.module(self.file)
-        function = re.match(r"# clause: (?:\w+::)*(\w+)", text)[1]
-        text = re.sub(r"\bcrate::", f"crate::{self.module.split('::')[0]}::", text)
-        for old, new in EDIT.findall(text):
-            self.find(function, old, new)
+        function = re.match(r"(?:\w+::)*(\w+)", edit.function)[1]
+        for change in edit.changes:
+            own = f"crate::{self.module.split('::')[0]}::"
+            self.find(function, *(re.sub(r"\bcrate::", own, it) for it in change))
 
     def find(self, function, old, new):
         """Finds the one place of a text, laid out in any way; of several, that in the function."""
@@ -80,10 +81,10 @@ def key_of(name):
     return f"{place[1]}:{place[2]}::{name.split('::')[-1]}" if place else name
 
 
-def batches(edits):
+def batches(placed):
     """Returns lists of the edits, of which no two change one function."""
     found = []
-    for edit in edits:
+    for edit in placed:
         free = (it for it in found if not any(edit.keys & other.keys for other in it))
         batch = next(free, None)
         if batch is None:
@@ -113,8 +114,8 @@ def differing(root, batch, crates):
 def report(root, both, crates):
     """Compares the Rust with as many mutants at a time as change different functions, and returns
     how many faults there are: functions with a mutant that are equal, or without that are not."""
-    edits = [Edit(it, both.sources) for it in sorted(root.glob("crates/*/must-fail/*.edit"))]
-    placed = [it for it in edits if not it.reason]
+    mutants = [Edit(it, both.sources, root) for it in edits.edits(root)]
+    placed = [it for it in mutants if not it.reason]
     keys = {one: key_of(other) for one, other in both.both.items()}
     errors, passed = [], set()
     for batch in batches(placed):
@@ -122,7 +123,7 @@ def report(root, both, crates):
         passed |= {it.name for it in batch if not it.keys <= found}
         alone = found - set().union(*(it.keys for it in batch))
         errors += [f"{it} differs without a mutant" for it in sorted(alone)]
-    reasons = collections.Counter(it.reason for it in edits if it.reason)
+    reasons = collections.Counter(it.reason for it in mutants if it.reason)
     if reasons[NOWHERE] != HOW_MANY:
         errors.append(f"{reasons[NOWHERE]} mutants, not {HOW_MANY}, {NOWHERE}")
     for error in errors + [f"{it} passes as a mutant of MIR" for it in sorted(passed)]:

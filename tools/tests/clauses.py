@@ -8,8 +8,9 @@ import sys
 import unittest
 
 ROOT = pathlib.Path(__file__).resolve().parents[2]
-sys.path.append(str(ROOT / "tools/erase"))
+sys.path += [str(ROOT / "tools"), str(ROOT / "tools/erase")]
 import forms
+from edits import edits
 from eraser import LIBRARY, Crate, Eraser
 
 # Clauses of no name, of std and of a call, and what an edit adds.
@@ -115,8 +116,7 @@ class Contracts(unittest.TestCase):
         for crate in ROOT.glob("crates/*"):
             source = "".join(path.read_text() for path in crate.glob("src/**/*.rt"))
             named = re.findall(r"\b(?:ensures|ghost|pub) (\w+)", "".join([source, *specs]))
-            for edit in crate.glob("must-fail/*.edit"):
-                of, clauses = re.match("# clause: (.*?), (.*)\n", edit.read_text()).groups()
-                functions = set(re.split(r" for |::", of)) - set(re.findall(r"\w+", source))
-                lost = set(clauses.split(", ")) - {*named, *OF_OTHERS} | functions - OF_EDITS
-                self.assertFalse(lost, edit)
+            for edit in edits(ROOT, crate.name):
+                words = set(re.split(r" for |::", edit.function))
+                functions = words - set(re.findall(r"\w+", source)) - OF_EDITS
+                self.assertFalse(set(edit.clauses) - {*named, *OF_OTHERS} | functions, edit)

@@ -1,4 +1,4 @@
-"""`tools/mutants` finds a mutant that is refused at another goal than that of its first line."""
+"""`tools/goals` finds a mutant that is refused at another goal than that of its first line."""
 
 import pathlib
 import subprocess
@@ -6,20 +6,27 @@ import unittest
 
 ROOT = pathlib.Path(__file__).resolve().parents[2]
 
-# The first line of one names the clause `judged` of `Tag::validate`; that of the other, which is of
-# an `impl`, names no function.
+# The first line of one names the clause `judged` of `Tag::validate`; that of the next, which is of
+# an `impl`, names no function. The third names the clause without a name, and a goal.
 TAG, ORDER = "font_tags/faults_of_a_tag_swapped.edit", "font_base/ordered_without_identity.edit"
+CUT = "font_lines/whole_number_cut_to_its_range.edit"
+OF_CUT = "./proofs/numbers/magnitude_of_digits/Answers.antt:13:9: error: "
 
 # A mutant, what `rt` says of it, and whether this is another goal.
 ROWS = [
     (TAG, "note: src/tag.rt:OWN:5: .. (`returns-then-clause-judged`); ..", False),
-    (TAG, "note: src/tag.rt:OWN:5: .. (`returns`)", False),
+    (TAG, "note: src/tag.rt:OWN:5: .. (`returns`)", True),
+    (TAG, "note: src/tag.rt:OWN:5: .. (`overflow`)", True),
     (TAG, "note: src/tag.rt:OWN:5: .. (`returns-clause-valid`)", True),
     (TAG, "note: src/tag.rt:OTHER:5: .. (`returns`)", True),
     (TAG, "./proofs/tag/Tag/validate/Answers.antt:9:5: error: `returns-clause-judged`: ..", False),
     (TAG, "./proofs/tag/Tag/validate/Answers.antt:9:5: error: `returns-clause-valid`: ..", True),
     (TAG, "./proofs/tag/Tag/new_checked/Answers.antt:9:5: error: `returns-clause-judged`", True),
     (TAG, "", True),
+    (CUT, OF_CUT + "`returns-in-digit`: ..", False),
+    (CUT, OF_CUT + "`loop-digit-preserved`: ..", False),
+    (CUT, OF_CUT + "`loop-digit-bounded`: ..", True),
+    (CUT, OF_CUT + "`returns-clause-value`: ..", True),
     (ORDER, "a.rt:9:5: .. (`matches_eq-x`)", False),
     (ORDER, "a.rt:9:5: .. (`returns-clause-matches_eq`)", True),
 ]
@@ -27,7 +34,7 @@ ROWS = [
 
 def misnamed(output):
     """Returns the status, and what is said of the mutants that are not refused where they say."""
-    run = subprocess.run([ROOT / "tools/mutants"], input=output, capture_output=True, text=True)
+    run = subprocess.run([ROOT / "tools/goals"], input=output, capture_output=True, text=True)
     return run.returncode, run.stderr.splitlines()
 
 
