@@ -7,8 +7,9 @@ result, under the same conditions, on every path; and Rust computes nothing that
 Rattle does not compute and prove. `std.py` lists what has another form on either side, `names.py`
 what is on one side alone.
 
-`--proved` fails unless `rt` left all, and `--write` copies it. `--mutants` also compares wrong
-Rust, and fails unless exactly the functions differ that the mutants change.
+`--proved` fails unless `rt` left all, and `--write` copies it. `--release` fails unless the copy is
+of this tree. `--mutants` also compares wrong Rust, and fails unless exactly the functions differ
+that the mutants change.
 """
 
 import collections
@@ -16,6 +17,7 @@ import subprocess
 import sys
 from pathlib import Path
 
+import declared
 import facts
 import kept
 import mutants
@@ -25,35 +27,36 @@ from packages import Sources
 ROOT = Path(__file__).resolve().parents[2]
 RUSTC = "1.95"
 PLACE = f"tools/mir/{kept.FILE.name}"
-OPTIONS = {"--proved", "--mutants", "--write"}
+OPTIONS = {"--proved", "--mutants", "--release", "--write"}
 
 # How many functions one side alone has, by the rule of `names.py`.
 ONE_SIDED = {
-    "a constant that a function uses, in Rust": 35,
-    "a constant that none uses, in Rust": 80,
-    "an impl's copy of a trait's default, in Rattle": 78,
-    "another trait of a closure, in Rattle": 9,
-    "declared by a trait or dropped, in Rattle": 33,
-    "derived `Clone` or `Eq`, in Rust": 64,
+    "a constant that a function uses, in Rust": 37,
+    "a constant that none uses, in Rust": 81,
+    "an impl's copy of a trait's default, in Rattle": 80,
+    "another trait of a closure, in Rattle": 19,
+    "declared by a trait or dropped, in Rattle": 41,
+    "derived `Clone` or `Eq`, in Rust": 70,
     "derived besides, in Rust": 11,
     "of a module that is left out, in Rattle": 48,
-    "the constructor of a tuple, in Rust": 20,
+    "the constructor of a tuple, in Rust": 24,
 }
 
 
-def report(names):
-    """Compares all functions, and returns how many differ, or are on one side without a reason."""
+def report(names, faults):
+    """Compares all functions, and returns how many differ, or are on one side without a reason,
+    with other faults."""
     compared = [*compare(names)]
     reasons, alone = names.alone()
     compared += [(name, "on one side alone") for name in alone]
-    errors = [f"{name}, {fault}" for name, fault in compared if fault]
+    errors = [*faults, *(f"{name}, {fault}" for name, fault in compared if fault)]
     for reason in sorted(ONE_SIDED.keys() | reasons.keys()):
         count, expected = reasons[reason], ONE_SIDED.get(reason, 0)
         print(f"on one side alone: {count} times {reason}")
         if count != expected:
             errors.append(f"{count} functions, not {expected}, are {reason}")
     for error in errors:
-        print(f"MIR that differs: {error}", file=sys.stderr)
+        print(f"Rust that differs: {error}", file=sys.stderr)
     total = collections.Counter(name.split("::")[0] for name, _ in compared)
     same = collections.Counter(name.split("::")[0] for name, fault in compared if not fault)
     crates = ", ".join(f"{it} {same[it]} of {count}" for it, count in sorted(total.items()))
@@ -73,21 +76,22 @@ def run(root, options):
     copy = None if is_left else kept.kept()
     crates = kept.left(ROOT, names) if is_left else copy["crates"]
     both = read(root, sources, crates)
-    faults = report(both)
+    faults = report(both, declared.faults(root, sources))
     if "--mutants" in options and not faults:
         faults += mutants.report(root, both, crates)
     if "--proved" in options:
         print(f"the copy in {PLACE} is of {kept.compared(ROOT, crates)}")
     of = "what `rt` left here" if is_left else f"the copy in {PLACE}, of {copy['of']}"
-    print(f"the MIR that was proved is {of}")
-    return faults
+    is_other = not is_left and not copy["of"].endswith(kept.tree(ROOT))
+    print(f"the MIR that was proved is {of}{', not of this tree' if is_other else ''}")
+    return faults + ("--release" in options and is_other)
 
 
 def main():
     version = subprocess.run(["rustc", "--version"], capture_output=True, text=True, check=True)
     if not version.stdout.startswith(f"rustc {RUSTC}."):
-        print(f"left out: the comparison of MIR, which is for rustc {RUSTC}")
-        return 0
+        print(f"rustc {RUSTC} is needed, and this is {version.stdout}", file=sys.stderr, end="")
+        return 1
     options = OPTIONS.intersection(sys.argv)
     (root,) = [Path(it).resolve() for it in sys.argv[1:] if it not in options] or [ROOT]
     sys.setrecursionlimit(20000)
@@ -95,7 +99,7 @@ def main():
     try:
         return min(run(root, options), 1)
     except FileNotFoundError as error:
-        fault = f"{error.filename} is missing: run `rt lib` in font_types, variations and font_c"
+        fault = f"{error.filename} is missing: run `rt lib` in font_lines, variations and font_c"
     except subprocess.CalledProcessError as error:
         fault = f"{error}"
     except FAULTS as error:

@@ -8,7 +8,7 @@ from paths import Differs, explore
 
 # What a reader says of a form that is none of its own.
 FAULTS = (ArithmeticError, AttributeError, LookupError, TypeError, ValueError)
-ADVICE = "a form that is not read: teach it to rust.py or rattle.py, or std.py what it is"
+ADVICE = "a form that is refused or not read: rust.py and rattle.py read forms, std.py those of std"
 
 
 def read(root, sources, crates):

@@ -4,7 +4,9 @@ can compare."""
 import json
 import lzma
 import re
+import shutil
 import subprocess
+import sys
 from pathlib import Path
 
 FILE = Path(__file__).with_name("proved.json.xz")
@@ -15,7 +17,16 @@ def left_of(root, crate):
 
 
 def left(root, crates):
-    """Returns what `rt` left of each crate, of a library alone."""
+    """Returns what `rt` left of each crate, of a library alone. Beside it is a sum of the sources,
+    unless the gate has just made it."""
+    sys.path.append(str(Path(shutil.which("rt") or "rt").resolve().parent))
+    import rtlib  # of the kit
+
+    for folder in (root / f"crates/{it}" for it in crates):
+        stamp = folder / "out/rlib/stamp"
+        now = rtlib.Crate(str(folder), str(root), {}).stamp
+        if stamp.exists() and stamp.read_text() != now():
+            raise ValueError(f"what `rt` left in {folder} is of another tree: run `rt lib` there")
     return {it: json.loads(left_of(root, it).read_text()) for it in sorted(crates)}
 
 
@@ -24,13 +35,21 @@ def kept():
     return json.loads(lzma.decompress(FILE.read_bytes()))
 
 
+def run(root, *command):
+    return subprocess.run(command, cwd=root, capture_output=True, text=True).stdout.strip()
+
+
+def tree(root):
+    """Returns which tree of `crates` is here, if git knows it."""
+    found = run(root, "git", "rev-parse", "HEAD:crates")
+    is_changed = not found or run(root, "git", "status", "--porcelain", "crates")
+    return f"tree {'that is not committed' if is_changed else found} of crates"
+
+
 def state(root):
     """Returns of which logic, and of which tree of `crates`, the MIR is that `rt` leaves here."""
-    run = lambda *of: subprocess.check_output(of, cwd=root, text=True)
-    (logic,) = re.findall(r"logic \w+", run("rt", "version"))
-    is_changed = run("git", "status", "--porcelain", "crates")
-    tree = "that is not committed" if is_changed else run("git", "rev-parse", "HEAD:crates")
-    return f"{logic}, tree {tree.strip()} of crates"
+    (logic,) = re.findall(r"logic \w+", run(root, "rt", "version"))
+    return f"{logic}, {tree(root)}"
 
 
 def write(root, crates):

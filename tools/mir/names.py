@@ -31,6 +31,7 @@ BESIDE = ("min", "max", "clamp", "and_eq", "or_cmp", "or_partial_cmp")
 # What both compilers call by names of their own: these in Rattle, none if it is of a bound, and in
 # Rust.
 OWN = {
+    "deref": (r"std_alloc::vec::derefs::VecDerefSlice::deref", r"<core::alloc::Vec<.*>::deref"),
     "drop": (r"(?:std\w*::.*::|.*Destruct::)drop|", "drop"),
     "derived_fields": (r"core::fmt::formatter::.*", r"core::fmt::Formatter::.*"),
 }
@@ -47,6 +48,8 @@ class Path:
 
     def __init__(self, text, aliases, impl=None):
         parts, (*self.module, self.name) = split(text, "::"), names(text)
+        whose = split(parts[0][1:-1], " as ")[-1] if parts[0][0] == "<" else text
+        self.is_of_std = whose.startswith("core::")
         given = split(parts[-1][1:-1]) if text[-1] == ">" else ()
         self.given = [parse(it, aliases) for it in given if it[0] != "'"]
         self.kind, self.trait, self.derived, self.generics = impl or (None, None, False, [])
@@ -85,11 +88,8 @@ class Names:
         self.text, self.library, self.sources, self.paths = text, library, sources, {}
         lines = "\n".join(it for lines in sources.lines.values() for it in lines)
         aliases = re.findall(r"^(?:pub(?:\(.*?\))? )?type (\w+) = (.+);", lines, re.M)
-        twice = [it for it, n in collections.Counter(it for it, _ in aliases).items() if n > 1]
-        renamed = re.findall(r"\b[A-Z]\w* as [A-Z]\w*\s*[,;}]|^(?! *//).*/\*", lines, re.M)
-        if twice or renamed:
-            raise ValueError(f"types of other names, or in comments: {twice} {renamed}")
         self.aliases = {name: parse(of, {}) for name, of in aliases}
+        self.exports = dict(sources.exports())
         # Those that rustc names end with a bracket: `{constant#0}`, `promoted[0]`, `{closure#0}`.
         named = [it for it in text.functions if it.removesuffix("()")[-1] not in "}]"]
         self.theirs = {it: self.path(it.removesuffix("()"), self.impl_at(it)) for it in named}
@@ -127,14 +127,12 @@ class Names:
             return None
         first, column, end, end_column = map(int, place.groups()[1:])
         lines = self.sources.lines[place[1]]
-        text = " ".join(lines[first - 1 : end])[column - 1 :]
+        text = " ".join(re.sub("//.*", "", it) for it in lines[first - 1 : end])[column - 1 :]
         if not text.startswith("impl"):
             pattern = r"\s*(?:pub(?:\(.*?\))? )?(?:struct|enum) (\w+)"
             found = next(filter(None, (re.match(pattern, it) for it in lines[first - 1 :])))
             return (found[1],), (text[: end_column - column],), True, []
         text = re.sub(r" where .*| \{.*", "", re.sub(r"\s+", " ", text))[4:]
-        if "//" in text or "/*" in text:
-            raise ValueError(f"a comment in {text}")
         generics = bracketed(text) if text[0] == "<" else ""
         trait, _, of = (it.strip() for it in text[len(generics) :].rpartition(" for "))
         of, trait = parse(of, self.aliases), parse(trait, self.aliases) if trait else None
@@ -143,8 +141,20 @@ class Names:
 
     def found(self, path):
         """Returns the function of Rattle that a path of Rust names, and with what types."""
-        found = ((self.ours[it], rest) for it, rest in path.keys(self.aliases) if it in self.ours)
+        keys = path.keys(self.aliases) if path.kind else [(self.exported(path), [])]
+        found = ((self.ours[it], rest) for it, rest in keys if it in self.ours)
         return next(found, (None, []))
+
+    def exported(self, path):
+        """Returns the path of a function of no type, by the modules that re-export it. Those of the
+        library's root are of `font_types`, but for what `src/lib.rs` names itself."""
+        name = "::".join([*path.module, path.name])
+        root = name.split("::")[0]
+        if root not in self.sources.crates.values() and root not in self.sources.by_hand:
+            name = f"font_types::{name}"
+        while name in self.exports:
+            name = self.exports[name]
+        return name
 
     def constant(self, text):
         """Returns the constant of ours that a path names, or None. One of an impl with parameters
@@ -169,9 +179,21 @@ class Names:
             found.update(zip(ours, theirs) if len(theirs) == len(ours) else ())
         return found
 
+    def are_one(self, one, text, body):
+        """Returns whether a function that Rattle passes by its name, with types and impls, is that
+        of a path: as if it were called there, or as the constructor of a variant."""
+        (name, types, dicts), path = json.loads(one), self.path(text)
+        impl, *given = dicts[0].get("Impl", [""]) if dicts else [""]
+        if impl and self.library.impls[impl]["of"]["of"] == name.rpartition("::")[0]:
+            name, (types, dicts) = f"{impl}::{last(name)}", given
+        if not types and not path.given and name == "::".join([*path.module, path.name]):
+            return True
+        what = {"Fn": [name, {"types": types, "dicts": dicts}]}
+        return self.fault((last(name), name, what), path, body) is None
+
     def order(self):
         """Returns the names of the methods of traits, by their numbers in Rattle."""
-        found = {}
+        found = {("Read", 0): "read", ("Write", 0): "write"}
         for impl in self.library.impls.values():
             for n, method in enumerate(impl["methods"]):
                 found.setdefault((last(impl["of"]["of"]), n), last(method))
@@ -212,7 +234,7 @@ class Names:
             of, *others = (n if kind == "Param" else None for kind, n in kinds)
             others = [it for it in others if it is not None and it not in left.types]
             if left.types.get(of) and len(others) == 1:
-                left.types[others[0]] = ("<", left.types[of][0])
+                left.types[others[0]] = ("<", left.types[of][0], last(bound["of"]))
         for n in range(len(left.body["generics"]["types"])):
             left.types.setdefault(n, ())
 
@@ -253,7 +275,7 @@ class Names:
         if not are_signs(signed, given[::-1] if is_try else given):
             return f"the signs of {signed}"
         if not ours and (not other or path.trait and last(name) in BESIDE):
-            return self.std_fault(name, types, path, body)
+            return self.std_fault(name, types, path, body) if path.is_of_std else "not of std"
         if other != ours:
             return f"{other}"
         return self.types_fault(self.library.bodies[ours], what[1], rest, path.given, body)

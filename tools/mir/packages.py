@@ -6,6 +6,8 @@ import subprocess
 import tempfile
 from pathlib import Path
 
+import declared
+
 # Without optimizations of MIR, which are trusted as LLVM is.
 FLAGS = "--emit=mir -Cpanic=abort -Coverflow-checks=off -Zmir-opt-level=0 -Zinline-mir=no".split()
 FLAGS.append("-Ztrim-diagnostic-paths=no")
@@ -16,7 +18,21 @@ PACKAGES = (
     (".", "--lib", "src/generated", ""),
     ("variations", "--lib", "variations/src/generated", "generated"),
     ("c", "--lib", "c/src/generated", ""),
+    (".", "--bin=fontval", "src/bin/fontval/generated/font_lines", "font_lines"),
 )
+
+# What the program has in place of Rattle's std, in its module `host`, as that of Rust differs.
+STAND_INS = r"(?<!:)\bhost(?=::(?:alloc::(?:AllocError|Vec)|hex)\b)"
+
+# What makes a path, a module or a macro another than it reads: a module that is named as one of std
+# or a type, a file that is not generated, and a macro of std.
+FOREIGN = re.compile(
+    r"\bmod\s+(?:r#)?(?:core|std|alloc|bool|char|str|[iu](?:\d+|size))\b|\binclude!|"
+    r"\bmacro_rules!\s*(?:assert|matches|write)\b|"
+    r'\bpath\s*=\s*r?#*"(?!(?:\.\./\.\./src/)?generated/)'
+)
+
+EXPORT = r"^pub use ([\w:]+)::(\w+|\{[^}]*\});"
 
 # A literal, or a crate with which a path begins, as the library has it.
 PATHS = r'("(?:\\.|[^"\\\n])*")|\b(?:(std)|font_types_proved)::(?=([A-Z])?)'
@@ -27,7 +43,13 @@ class Sources:
 
     def __init__(self, root):
         self.crates, self.modules, self.lines, self.files = {}, set(), {}, {}
-        for _, _, folder, module in PACKAGES:
+        self.by_hand = declared.words((root / "src/lib.rs").read_text(), "crate").split()
+        for package, _, folder, module in PACKAGES:
+            if any((root / package / it).exists() for it in (".cargo", "build.rs")):
+                raise ValueError(f"{package} has what changes how cargo builds it")
+            for path in (root / package / "src").rglob("*.rs"):
+                if path.parent.name != "host" and (found := FOREIGN.search(path.read_text())):
+                    raise ValueError(f"{path}: what could be another than it reads: `{found[0]}`")
             for path in sorted((root / folder).rglob("*.rs")):
                 text, first = path.read_text(), module or path.relative_to(root / folder).parts[0]
                 self.lines[str(path.relative_to(root))] = text.split("\n")
@@ -36,6 +58,17 @@ class Sources:
                     self.files[f"{head[1]}/src/{head[2]}.rt"] = str(path.relative_to(root))
                     self.modules.add("::".join(head[1].split() + head[2].split("/")))
                     self.crates[first.removesuffix(".rs")] = head[1]
+        if len(self.lines) != len(self.files) + 1:  # definitions.rs, for documentation
+            raise ValueError("a generated file is of no source, or two are of one")
+
+    def exports(self):
+        """Yields the path that a module gives to what it re-exports, and the one that this has."""
+        for file, lines in self.lines.items():
+            for of, some in re.findall(EXPORT, "\n".join(lines), re.M):
+                module = self.module(file)
+                inner = of[7:] if of.startswith("crate::") else f"{module}::{of}"
+                for name in re.findall(r"\w+", some):
+                    yield f"{module}::{name}", f"{inner}::{name}"
 
     def module(self, file):
         """Returns the module that an erased file is."""
@@ -58,5 +91,6 @@ def printed(root, package, target):
         folder = "examples" if "example" in target else "deps"
         (file,) = Path(room, "debug", folder).glob("*.mir")
         text = as_in_library(file.read_text())
+    text = re.sub(STAND_INS, "core", text) if "bin" in target else text
     own = rf"\1{package}/src/"
     return text if package == "." else re.sub(r"(@| at )src/(?:\.\./\.\./)?", own, text)

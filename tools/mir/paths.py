@@ -109,6 +109,8 @@ class Path:
             return x == y
         if is_number(x, y) or isinstance(x[0], tuple) or isinstance(y[0], tuple):
             return not is_number(x, y) and len(x) == len(y) and all(map(self.equal, x, y))
+        if x[0] == y[0] == "fn":
+            return self.names.are_one(x[1], y[1], self.left.function)
         if is_condition(x) or is_condition(y):
             return self.decide(x) == self.decide(y)
         is_whole = x[0] == y[0] and len(x) == len(y) and x[0] in ("agg", "&", "shown")

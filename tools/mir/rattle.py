@@ -315,12 +315,13 @@ class Body(Function):
         return "" if kind != "Ref" else "mut" if inner[1] == "Mut" else "&"
 
     def operands(self, of, operands):
-        """Returns the operands. A function by its name is a unit and an impl of `Fn`."""
+        """Returns the operands. A function by its name is a unit and an impl of `Fn`, with the
+        types and the impls that it is called with."""
         given = of["Fn"][1]["dicts"] if "Fn" in of else ()
         form = r"\w+::(\w+\+.*)\+Fn(?:Mut|Once)?$"
-        found = (re.match(form, it["Impl"][0]) for it in given if "Impl" in it)
-        named = [re.sub(r"\++", "::", it[1]) for it in found if it]
-        functions = iter([("term", ("fn", it)) for it in named])
+        found = ((re.match(form, it["Impl"][0]), it["Impl"]) for it in given if "Impl" in it)
+        named = [(re.sub(r"\++", "::", it[1]), *what[1:]) for it, what in found if it]
+        functions = iter([("term", ("fn", json.dumps(it))) for it in named])
         terms = map(self.operand, operands)
         return [next(functions, it) if it == ("term", UNIT) else it for it in terms]
 

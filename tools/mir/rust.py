@@ -29,7 +29,17 @@ VARIANTS = {
     "Option": ["None", "Some"], "Result": ["Ok", "Err"], "ControlFlow": ["Continue", "Break"],
     "Ordering": ["Less", "Equal", "Greater"],
 }  # fmt: skip
-STRUCTS = {"Range", "RangeFrom", "RangeTo", "PhantomData"}
+STRUCTS = {"AllocError", "Range", "RangeFrom", "RangeTo", "PhantomData"}
+
+# What is a number in Rattle, and what has nothing to drop there.
+STATUSES = {
+    "core::process::ExitCode::SUCCESS": ("agg", None, (number(0, 8),)),
+    "core::process::ExitCode::FAILURE": ("agg", None, (number(1, 8),)),
+}
+UNDROPPED = "core::result::Result<usize, core::io::Error>"
+
+# A literal, or the modules of a type or a trait, and its name. Of all but `Error` a name has one.
+NAMED = re.compile(r'"(?:\\.|[^"\\\n])*"|(?<![\w:>])((?:[a-z_]\w*::)+)([A-Z]\w*[a-z]\w*)')
 
 
 def outside(text, at):
@@ -108,7 +118,7 @@ class Text:
         """Reads what rustc prints of these crates in one package, each function once."""
         for name in set(re.findall(r"\b(?:core|alloc)::(?:\w+::)*([A-Z]\w*)", text)):
             self.require_new(name)
-        again, function = False, None
+        again, function, paths = False, None, {}
         for line in text.splitlines():
             if line == "// MIR FOR CTFE":
                 again = True
@@ -126,6 +136,9 @@ class Text:
                 again = False
             elif function and line.startswith(" "):
                 function.read(line.strip())
+            for path, name in NAMED.findall(line) if function else ():
+                if name not in ("", "Error") and paths.setdefault(name, path) != path:
+                    raise ValueError(f"{name} of {path} and of {paths[name]}")
 
 
 class Body(Function):
@@ -213,6 +226,8 @@ class Body(Function):
         self.now.append(("index", *self.operands(operands)))
 
     def drop(self, place):
+        if self.types.get(place) == UNDROPPED:
+            return
         given = [("copy", self.place(place))]
         self.now.append(("call", ("drop", "drop", None), given, ("unused", ()), "&", "unit"))
 
@@ -312,8 +327,7 @@ class Body(Function):
         if text[:5] in ("move ", "copy "):
             return ("copy", self.place(text[5:]))
         if not text.startswith("const "):
-            crate, *path = names(text)
-            return ("term", ("fn", "::".join([self.text.crates.get(crate, crate), *path])))
+            return ("term", ("fn", text))
         text = text.removeprefix("const ")
         term = self.term(text)
         if term:
@@ -343,7 +357,7 @@ class Body(Function):
             return number(n[limit[2]], 32 if limit[2] == "BITS" else bits)
         if text[0] in "'\"b" and text[-1] in "'\"":
             return literal_of(text)
-        known = {"true": TRUE, "false": FALSE, "()": UNIT}
+        known = {"true": TRUE, "false": FALSE, "()": UNIT, **STATUSES}
         return known.get(text) or (("gen", text) if re.fullmatch("[A-Z]+", text) else None)
 
     def value(self, text):

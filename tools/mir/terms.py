@@ -347,7 +347,9 @@ class Memory:
         if term[0] == "lost":
             raise ValueError(f"a reference to one of some locals: {term}")
         if term[0] in ("ptr", "slice") and term[1][0] != "mem":
-            return ("&", self.seen(self.read(term[1:3])), *map(self.seen, term[3:]))
+            found = self.seen(self.read(term[1:3]))
+            found = ("agg", None, ()) if found == ("static", b"") else found
+            return ("&", found, *map(self.seen, term[3:]))
         term = tuple(map(self.seen, term))
         if term[0] == "repeat" and is_number(*term[1:]) and term[1][2] == 8:
             return ("static", bytes([term[1][1]] * term[2][1]))

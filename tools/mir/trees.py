@@ -8,6 +8,10 @@ from rust import split
 from terms import width
 
 
+# What Rattle calls otherwise, beside what it holds.
+RENAMED = {"NoValue": "Infallible", "AllocFailed": "AllocError"}
+
+
 def parse(text, aliases):
     """Returns a type of Rust: the last name of a path, and the types in it, without lifetimes."""
     text = re.sub(r"^(&?)'\w+ ", r"\1", text.strip())
@@ -49,8 +53,8 @@ def is_type(pattern, tree, bound, closures={}):
     kind, name = pattern[0], tree[0]
     if kind == "Param":
         of = bound.setdefault(pattern[1], tree)
-        if of[:1] == ("<",) and name.startswith(f"<{of[1]} as "):  # an associated type of that
-            bound[pattern[1]] = tree
+        if of[:1] == ("<",) and re.match(rf"<{of[1]} as (\w+::)*{of[2]}(<.*>)?>::", name):
+            bound[pattern[1]] = tree  # an associated type of that, by the trait
         return bound[pattern[1]] == tree
     if kind in ("Const", "Lit"):
         return tree == (str(pattern[1]),)
@@ -61,7 +65,7 @@ def is_type(pattern, tree, bound, closures={}):
     if (kind, name) == ("[", "str"):
         return pattern[1] == ("Int", 8)
     # Rattle counts associated types too, after the parameters of a type.
-    is_one = name == kind.replace("NoValue", "Infallible") and len(tree) <= len(pattern)
+    is_one = name == RENAMED.get(kind, kind) and len(tree) <= len(pattern)
     is_whole = len(tree) == len(pattern) or name[0].isalpha()
     return is_one and is_whole and all(
         is_type(a, b, bound, closures) for a, b in zip(pattern[1:], tree[1:])
@@ -86,7 +90,9 @@ def owners(tree, aliases):
         return [("Ref" + it, rest) for it, rest in owners(inner[0], aliases)] + [("Ref", inner)]
     if kind in ("[", "[;"):
         name = "Array" if kind == "[;" else "Slice"
-        found = [(name + it, rest + inner[1:]) for it, rest in owners(inner[0], aliases)]
+        of = owners(inner[0], aliases)
+        found = [(f"Array{it}{inner[1][0]}", rest) for it, rest in of if kind == "[;"]
+        found += [(name + it, rest + inner[1:]) for it, rest in of]
         return found + [(it, inner) for it in (name, name.lower(), "Ref" + name)]
     if kind == "(":
         return [(f"Tuple{len(inner)}{it}", rest) for it, rest in joined(inner, aliases)]

@@ -9,10 +9,11 @@ import tempfile
 import unittest
 
 ROOT = pathlib.Path(__file__).resolve().parents[2]
+VERSION = "tools/mir/__main__.py"
 MEMORY = "crates/rows/src/tests/json/memory.rt"
 STORED = "crates/fontval/memory/stdin crates/fontval/memory/stdout"
 BUILT = (
-    "c/check tools/verdicts tools/mutants tests/workspaces compare/fontations/copy "
+    "c/check tools/verdicts tools/goals tests/workspaces compare/fontations/copy "
     "crates/rows/out/rows_tests crates/fontval/out/fontval"
 )
 TOOLS, TOOLS_FOR_C = (
@@ -24,7 +25,8 @@ SYSTEM = "bash sh env basename cat cmp cp dirname grep mktemp paste rm sed tail 
 # Faults, beside a call that fails, with which the gate fails, and what others leave out.
 FAULTS = "test 1,test 2,early answer,message,answers,bad edit,status of ci,argument,tests".split(",")
 FETCH = "cargo fetch --quiet --manifest-path compare/Cargo.toml"
-LEFT_OUT = {"crate": "nothing", "--anew": "nothing", "freetype": "FreeType", "rustc": "MIR"}
+LEFT_OUT = {"crate": "nothing", "--anew": "nothing", "freetype": "FreeType"}
+LEFT_OUT["rustc"] = "the comparison of MIR, which needs rustc 1.95"
 LEFT_OUT[FETCH] = "the comparison with font-types, which cargo cannot fetch"
 
 # It logs its call, and fails if `$FAIL` is its call. What `rt ci` builds asks for one allocation.
@@ -34,7 +36,7 @@ echo "$call" >>"$LOG"
 [ "$call" != "$FAIL" ] || exit 1
 case $call in
 "check ") [ "$FAIL" != freetype ] || echo "left out: FreeType" ;;
-"python3 tools/mir --proved --mutants") [ "$FAIL" != rustc ] || echo "left out: MIR" ;;
+"rustc --version") [ "$FAIL" = rustc ] && echo rustc 1.96.0 || echo rustc 1.95.0 ;;
 "rows_tests --list")
     sed -n '/^#\[test\]/{n; s/^fn \(.*\)(.*/tests::json::memory::\1: test/p}' MEMORY ;;
 "rows_tests "*)
@@ -54,7 +56,7 @@ case $call in
     [ "$FAIL" != "bad edit" ] || echo "rt: note: bad must-fail edits: some"
     echo "3 passed, $([ "$FAIL" = crate ] && echo 1 || echo 0) failed"
     [ "$FAIL" != "status of ci" ] ;;
-"mutants ") grep -q passed ;;
+"goals ") grep -q passed ;;
 "cargo doc"*) [ "$RUSTDOCFLAGS" = -Dwarnings ] ;;
 esac
 """.replace(
@@ -65,7 +67,7 @@ esac
 class Gate(unittest.TestCase):
     def setUp(self):
         self.folder = pathlib.Path(self.enterContext(tempfile.TemporaryDirectory()))
-        for path in f".ci/run {STORED} {MEMORY}".split():
+        for path in f".ci/run {STORED} {MEMORY} {VERSION}".split():
             self.put(path, (ROOT / path).read_text())
         for path in BUILT.split() + [f"bin/{name}" for name in TOOLS + TOOLS_FOR_C]:
             self.put(path, STAND_IN)
@@ -98,7 +100,7 @@ class Gate(unittest.TestCase):
         self.assertFalse((self.folder / "crates/font_types/out/rlib/old").exists())
         steps = {call for call in calls if not call.startswith(("font", "rows"))}
         # A step that is lost or added changes this number.
-        self.assertEqual(len(steps), 26)
+        self.assertEqual(len(steps), 27)
         # A step that checks nothing would not fail.
         needed = {"cargo clippy": " -D warnings", "cargo fmt": " --check ", "python3 -B": " -p *.py"}
         for call in steps:

@@ -1,10 +1,12 @@
 """The comparison of MIR accepts right Rust and refuses wrong Rust. `mir/attacks.rs` has functions
-that `rt lib` proved; `mir/attacks.json.xz` is the MIR that `rt` left of them."""
+that `rt lib` proved; `mir/attacks.json.xz` is the MIR that `rt` left of them. What no MIR tells is
+tried in a copy of the repository."""
 
 import json
 import lzma
 import os
 import pathlib
+import shutil
 import subprocess
 import sys
 import tempfile
@@ -14,13 +16,26 @@ import unittest
 ROOT = pathlib.Path(__file__).resolve().parents[2]
 sys.path.append(str(ROOT / "tools/mir"))
 
+import declared
 import rattle
 import rust
 from compare import compare
 from names import Names
-from packages import ENVIRONMENT, FLAGS, as_in_library
+from packages import ENVIRONMENT, FLAGS, Sources, as_in_library
 
 FILES = ROOT / "tools/tests/mir"
+
+# The root of the crate: a module by hand has a trait that is named as one of std.
+ROOT_FILE = """mod attacks;
+mod beside {
+    pub trait Ord: Sized {
+        fn min(self, other: Self) -> Self { other }
+    }
+    impl Ord for u32 {}
+}
+"""
+
+OF_ANOTHER_TRAIT = "Kind<Of: Level>>(_t: &T) -> u32 { <T as Kind>"
 
 # A function, and what is wrong in it: of the first, results are 10 and 40 for 0, 10, .., 70.
 ROWS = [
@@ -60,17 +75,47 @@ ROWS = [
     ("of_another_bound", "<T as Make<A>>", "<T as Make<B>>"),
     ("of_a_generic_method", "count::<A>", "count::<B>"),
     ("of_two_parameters", "of_the_other::<A>", "of_the_other::<B>"),
+    ("of_a_trait", "<A as Kind>::number", "A::number"),
+    ("of_the_first_trait", "Kind>(_t: &T) -> u32 { <T as Outer>", OF_ANOTHER_TRAIT),
+    ("passed_function", "number_of::<A>)", "number_of::<B>)"),
+    ("passed_method", "<A as Kind>::number)", "<B as Kind>::number)"),
+    ("passed_of_a_number", "Shift::<3>", "Shift::<4>"),
+    ("passed_of_types", "Pair::<A, B>", "Pair::<B, A>"),
+    ("least", "x.min(y)", "crate::beside::Ord::min(x, y)"),
+    ("of_a_base", "..two }", "..some[n] }"),
+    ("written", "    *other = 2;\n", ""),
+    ("number_of_height", "Height::Low => 1", "_ => 1"),
 ]
 
-# Rust whose types or variants would be read as others, so that it is an error.
-UNREAD = [
-    ("    Low,\n    Middle,\n    High,\n", "    Low = 0x1,\n    Middle = 0b0,\n    High = 2,\n"),
-    ("    Low,\n    Middle,\n    High,\n", "    Low = ONE,\n    Middle = 0,\n    High = 2,\n"),
-    ("{\n    Low,\n    Middle,\n    High,\n}", "{ Low = 1, Middle = 0, High = 2 }"),
-    ("pub trait Kind", "/* of B */ pub trait Kind"),
-    ("impl Kind for A {", "impl Kind<> for A // for B\n{"),
-    ("pub trait Kind", "use self::{A as C, B as D};\n\npub trait Kind"),
-    ("pub trait Kind", "type C = A;\npub mod inner {\npub type C = super::B;\n}\n\npub trait Kind"),
+# Edits of the repository that change no MIR, or that of other programs alone: a file, a text, its
+# wrong neighbor, and what the refusal says.
+IDS, PADDING = "src/generated/font_ids/glyph_id.rs", "src/generated/font_decimal/padding.rs"
+RAW, FORMAT = "src/generated/font_base/raw.rs", "c/src/generated/font_c/format.rs"
+F4DOT12 = "src/generated/font_fixed/fixed_i16/f4dot12.rs"
+EDITS = [
+    (F4DOT12, "FixedI16<12>", "FixedI16<10>", "`type F4Dot12 = FixedI16 < 10 > ;`"),
+    (F4DOT12, "Format<16, 12> for", "Format<16, 10> for", "`impl Format < 16 , 10 > for"),
+    (F4DOT12, "f4dot12.rt by", "f6dot10.rt by", "two are of one"),
+    (PADDING, "    Left,", "    Right,", "`enum Align { Right , Center , Right }`"),
+    (PADDING, "    Left,", "    Left = 0x0,", "`enum Align { Left = 0x0 , Center , Right }`"),
+    (PADDING, "pub plus: bool", "pub zeros: bool", "`pub zeros : bool "),
+    (IDS, "fn to_u32(self) -> u32", "fn to_u32(self) -> i32", "- > i32 `"),
+    (IDS, "fn to_u32", "#[cfg(debug_assertions)]\n    fn to_u32", "`# [ cfg ( debug"),
+    (IDS, "self.0 as u32", 'if cfg!(panic = "abort") { 1 } else { 2 }', "`cfg ! ( panic"),
+    (IDS, "self.0 as u32", 'option_env!("A").map_or(1, |_| 2)', "`option_env ! ("),
+    (IDS, "self.0 as u32", "{ type T = u32; self.0 as T }", "`type T = u32 ;`"),
+    (IDS, "use core::fmt;", "use core::primitive::u32 as U16;", "`use std :: primitive"),
+    (IDS, "use core::fmt;", "use core::fmt;\nmacro_rules! u16 { () => { u32 } }", "`macro_rules !"),
+    (RAW, "impl FixedSize for u16", "mod sizes {}\nimpl FixedSize for u16", "`mod sizes {`"),
+    (RAW, "impl FixedSize for u16", "type U16 = u32;\nimpl FixedSize for U16", "`type U16 ="),
+    (RAW, "pub trait Scalar", "pub trait r#Scalar", "a raw name"),
+    (RAW, "pub trait Scalar", "/* a */ pub trait Scalar", "a comment in brackets"),
+    (FORMAT, "#[repr(C)]\n", "", "layouts of other types"),
+    (FORMAT, "no_mangle", 'export_name = "fty_fixed_div"', "`# [ unsafe ( export_name ="),
+    ("src/lib.rs", "mod literal;", "mod literal;\nmod i32;", "than it reads: `mod i32`"),
+    ("src/lib.rs", "mod literal;", "macro_rules! assert { () => {} }", "`macro_rules! assert`"),
+    ("c/src/lib.rs", "mod font_base;", "mod font_base;\nmod core {}", "`mod core`"),
+    ("c/src/lib.rs", "src/generated/font_geom", "src/other/font_geom", "`path ="),
 ]
 
 # Functions that are refused, not compared: they read through one of several locals or references,
@@ -83,7 +128,7 @@ def differing(source):
     """Returns the functions that differ in Rust."""
     with tempfile.TemporaryDirectory() as room:
         pathlib.Path(room, "attacks.rs").write_text(source)
-        pathlib.Path(room, "lib.rs").write_text("mod attacks;")
+        pathlib.Path(room, "lib.rs").write_text(ROOT_FILE)
         rustc = [
             "rustc",
             "--edition=2024",
@@ -98,12 +143,40 @@ def differing(source):
     text = rust.Text(lines.values())
     text.read(mir, {"attacks"})
     proved = json.loads(lzma.decompress((FILES / "attacks.json.xz").read_bytes()))
-    sources = types.SimpleNamespace(lines=lines, crates={"attacks": "attacks"})
+    sources = types.SimpleNamespace(
+        lines=lines,
+        crates={"attacks": "attacks"},
+        by_hand=(),
+        exports=dict,
+    )
     names = Names(text, rattle.Library([proved]), sources)
     return {name.split("::")[-1] for name, fault in compare(names) if fault}
 
 
+def refusal(root):
+    """Returns why the declarations in a copy of the repository are not those of the source."""
+    try:
+        return "\n".join(declared.faults(root, Sources(root)))
+    except ValueError as error:
+        return str(error)
+
+
 class Mir(unittest.TestCase):
+    def test_declarations(self):
+        with tempfile.TemporaryDirectory() as room:
+            root = pathlib.Path(room)
+            for name in ("src", "c/src", "variations/src"):
+                shutil.copytree(ROOT / name, root / name)
+            (root / "crates").symlink_to(ROOT / "crates")
+            self.assertEqual(refusal(root), "")
+            for name, old, new, word in EDITS:
+                right = (root / name).read_text()
+                (root / name).write_text(right.replace(old, new))
+                with self.subTest(new):
+                    self.assertTrue(old in right, name)
+                    self.assertIn(word, refusal(root))
+                (root / name).write_text(right)
+
     def test_wrong_rust(self):
         right = (FILES / "attacks.rs").read_text()
         wrong = right
@@ -112,15 +185,3 @@ class Mir(unittest.TestCase):
             wrong = wrong[:place] + new + wrong[place + len(old) :]
         self.assertEqual(differing(right), REFUSED)
         self.assertEqual(differing(wrong), REFUSED | {name for name, *_ in ROWS})
-
-    def test_unread_rust(self):
-        right = (FILES / "attacks.rs").read_text()
-        for old, new in UNREAD:
-            with self.subTest(new):
-                self.assertEqual(right.count(old), 1)
-                wrong = right.replace(old, new) + "\nconst ONE: isize = 1;\n"
-                try:
-                    self.assertIn("number_of_height", differing(wrong))
-                except ValueError as error:
-                    of = "the variants of|a comment in|types of other names"
-                    self.assertRegex(str(error), f"^({of})")

@@ -163,6 +163,7 @@ pub struct Shift<const F: u32>(u32);
 impl<const F: u32> Shift<F> {
     pub const AMOUNT: u32 = F;
 
+    pub fn bits() -> u32 { F }
     pub fn of_other_parameters(&self) -> u32 { self.0 ^ F }
 }
 
@@ -212,6 +213,7 @@ pub fn of_two_indices(rs: &mut [&mut u32; 2], i: usize, j: usize) -> u32 {
 
 impl A {
     fn drop(x: u32) -> u32 { x & 1 }
+    fn number() -> u32 { 3 }
 }
 
 impl B {
@@ -252,3 +254,26 @@ impl<T: Kind> Holder<T> {
 }
 
 pub fn of_two_parameters() -> u32 { Holder::<A>::of_the_other::<A>() }
+
+pub fn of_a_trait() -> u32 { <A as Kind>::number() }
+pub fn of_the_first_trait<T: Outer + Kind>(_t: &T) -> u32 { <T as Outer>::Of::number() }
+
+pub fn passed_function(x: Option<u32>) -> u32 { x.unwrap_or_else(number_of::<A>) }
+pub fn passed_method(x: Option<u32>) -> u32 { x.unwrap_or_else(<A as Kind>::number) }
+pub fn passed_of_a_number(x: Option<u32>) -> u32 { x.unwrap_or_else(Shift::<3>::bits) }
+pub fn passed_of_types(x: Option<u32>) -> u32 { x.unwrap_or_else(Pair::<A, B>::of_the_first_type) }
+
+pub fn least(x: u32, y: u32) -> u32 { x.min(y) }
+
+#[derive(Clone, Copy)]
+pub struct Two {
+    one: u32,
+    other: u32,
+}
+
+pub fn of_a_base(two: Two, some: &[Two], n: usize) -> Two { Two { one: 1, other: 2, ..two } }
+
+pub fn written(one: &mut u32, other: &mut u32) {
+    *one = 1;
+    *other = 2;
+}

@@ -1,0 +1,80 @@
+"""What no MIR has, and a user meets: modules, imports, aliases, constants, fields, variants, the
+heads of traits and `impl`s, and signatures. A file of Rust has them as the source that was proved
+has them, word by word and in the same order, but for what the eraser adds."""
+
+import re
+
+WORD = re.compile(
+    r"""(?P<comment>//[^\n]*)|(?P<hidden>/\*|\b[bc]?r(?=["#]))|b?"(?:[^"\\]|\\.)*"|"""
+    r"""b?'(?:[^'\\\n]|\\[^\n][^'\n]*)'|\w+|::|!=|\S""",
+    re.S,
+)
+
+# All attributes and macros but these, which rustc may read otherwise for a user than here.
+OTHER_FORM = re.compile(
+    r"# \[ (?!derive \(|must_use \]|inline (?:\( \w+ \) )?\]|doc \( hidden \) \]|"
+    r"repr \( C \) \]|unsafe \( no_mangle \) \])|# !|"
+    r"\b(?!(?:assert|eprint|matches|write|if|in|match|return|while) )\w+ ! "
+)
+
+# What is compared; of a struct each field apart.
+DECLARED = re.compile(
+    r"\b(?:use|type) [^;{]*(?:\{[^}]*\} )?;|\bmod \w+ [;{]|\bconst \w+ : [^;]*;|"
+    r"\benum [^{]*\{[^}]*\}|(?:# \[ repr .*?\] (?:pub )?)?\b(?:struct|trait|impl) [^;{]*[;{]|"
+    r"(?<=[{,] )(?:pub )?\w+ : [^,{}]*(?=[,}])|"
+    r"\bfn \w+ (?:< [^(]*> )?\(.*?\) (?:- > .*?)?(?:where .*?)?(?=requires|ensures|\{|;)"
+)
+
+# What the eraser adds.
+ADDED = re.compile(
+    r"impl (?:Copy|std :: error :: Error|std :: fmt :: Display) for \w+ \{|use std :: \* ;|"
+    r"fn fmt .*"
+)
+
+# How Rust is laid out, and what it has otherwise.
+CHANGED = (
+    (r"# \[ (?!repr).*?\] ", ""),
+    (r"\b(?:core|host) :: ", "std :: "),
+    (r"\bfont_types_proved\b", "font_types"),
+    (r", (?=[)}\]>{])", ""),
+    (r"\+ Drop\b(?! ::) ", ""),
+    (r"< Rhs = Self >", "< Rhs >"),
+    (r"; (?=[\w:{} ]+ \])", "* "),
+    (r"< W : fmt :: Write > ", ""),
+    (r"Formatter < (?:W|' _) >", "Formatter"),
+    (r"(fn clone .*? - > )Result < (.*?) , AllocError >", r"\1\2"),
+    (r"\* const (\w+) , \w+_len : usize", r"& [ \1 ]"),
+    (r"\* mut (\w+) , \w+_len : usize", r"& mut [ \1 ]"),
+)
+
+
+def words(text, crate):
+    """Returns the words of a file of a crate, without comments and paths to the crate."""
+    found = [*WORD.finditer(text)]
+    if any(it["hidden"] for it in found):
+        raise ValueError("a comment in brackets, or a raw name or text")
+    text = " ".join(it[0] for it in found if not it["comment"])
+    text = re.sub(r"# \[ cfg \( doc \) \] use [^;]* ; ", "", text)
+    return re.sub(rf"\b(?:crate|super|{crate}) :: ", "", text)
+
+
+def faults(root, sources):
+    """Yields what a file of Rust declares and its source does not."""
+    for file, path in sources.files.items():
+        crate = file.split("/")[0]
+        rust = words("\n".join(sources.lines[path]), crate)
+        source, at = words((root / "crates" / file).read_text(), crate), 0
+        for it in OTHER_FORM.finditer(rust):
+            yield f"{path}: a form that is not read: `{rust[it.start() :][:40]}`"
+        for pattern, new in CHANGED:
+            rust, source = (re.sub(pattern, new, it) for it in (rust, source))
+        if rust.count("# [ repr") != source.count("# [ repr"):
+            yield f"{path}: layouts of other types than in its source"
+        for it in DECLARED.findall(rust):
+            is_import = it.startswith("use ")  # which rustfmt sorts
+            found = source.find(it, 0 if is_import else at)
+            if found < 0 and not ADDED.fullmatch(it):
+                yield f"{path}: not as its source has it: `{it}`"
+                break
+            if found >= 0 and not is_import:
+                at = found + len(it)
