@@ -15,7 +15,7 @@ ROOT = pathlib.Path(__file__).resolve().parents[2]
 
 # The modules of the library's crates that are left out, and those of its tests: calls of what the
 # package does not export, and JSON and memory, which only Rattle has. For the same reasons cargo
-# runs no tests of `fontval` and `font_c`, and of `callers` there is no Rust.
+# runs no tests of `fontval_main` and `font_c`, and of `callers` there is no Rust.
 LEFT_OUT = {"font_base": ["facts"], "font_types": ["json"], "rows": ["json", "raw"]}
 
 # The definitions that contracts name, in pages of rustdoc.
@@ -48,9 +48,6 @@ def add_file(files, of, source, name, folder, module):
         sys.exit(f"{path}:{line}: {what}: see tools/erase/forms.py")
     except (IndexError, StopIteration):
         sys.exit(f"{path}: it ends within an item")
-    if module == "mod" and of.target != "tests":
-        for left_out in of.left_out:
-            check_left_out(source, left_out)
     SHOWN.update(erased.contracts.shown.values())
     files[f"{folder}/{module}.rs"] = formatted(path, erased.written())
     # A module of the root is in the same folder, and one of another file in a folder of its name.
@@ -66,17 +63,6 @@ def formatted(path, text):
     if rustfmt.returncode != 0:
         sys.exit(f"{path}: rustfmt cannot parse the erased text\n{rustfmt.stderr}")
     return rustfmt.stdout
-
-
-def check_left_out(source, module):
-    """Refuses an `impl` of a module that is left out, or below it, if a call that is kept could be
-    of it: it may be of the trait or for the error that are left out too."""
-    for path in [ROOT / source / f"{module}.rt", *(ROOT / source / module).rglob("*.rt")]:
-        for line in path.read_text().splitlines():
-            if line.lstrip().startswith("impl") and not any(
-                own in line for own in (" JsonScalar for ", " for JsonFault {")
-            ):
-                sys.exit(f"{path}: `{line}`, in a module that is left out")
 
 
 def update(files, old):

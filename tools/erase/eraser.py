@@ -28,8 +28,8 @@ These are changed, and nothing else:
 `Display` and `Error` of a type that derives `Error` are added, what `DERIVED` lists, and in each
 file of the program the import of what Rattle has in scope.
 
-What Rust could read otherwise is an error, as far as `forms.py` knows it. `tools/mir` compares what
-both compilers make of the source and of the output.
+`tools/mir` compares what both compilers make of the source and of the output. What it cannot
+compare is an error, as far as `forms.py` knows it.
 """
 
 import re
@@ -110,9 +110,8 @@ class Eraser:
         self.kept = [text not in MARKS for _, text, _ in self.tokens]
         self.put_before = [""] * (len(self.tokens) + 1)
         self.modules, self.header, self.trait_end = [], 0, 0
-        # Names that mean something else in Rust, functions that had a parameter `W`, arguments of
-        # macros, and the words whose form is checked.
-        self.gone, self.writers, self.macros, self.visited = [], [], [], []
+        # Functions that had a parameter `W`, and the words whose form is checked.
+        self.writers, self.visited = [], []
         if of.target == "program":
             first = (n for n, token in enumerate(self.tokens) if token[0] not in ("space", "head"))
             self.put_before[next(first, 0)] += "use crate::host::*;\n\n"
@@ -144,9 +143,7 @@ class Eraser:
                 return self.function(at)
             # A fact for a proof.
             case ["let", "_bytes", "=", *_] if target == "library":
-                end = self.item_end(at)
-                forms.check_in(self, at, self.words[at + 3 : end - 1], "FACTS")
-                return self.leave_out_with_comments(at, end)
+                return self.leave_out_with_comments(at, self.item_end(at))
             case ["Formatter", "<", "W", ">", *_] if self.is_of_writer(at):
                 self.replace(at + 2, "'_")
                 return at + 3
@@ -251,9 +248,6 @@ class Eraser:
         is_error, count = names[-1:] == ["Error"], len(names)
         while names and names[-1] in ("Drop", "Error", ","):
             names.pop()
-        for name in names:
-            if name != ",":
-                forms.check_in(self, first, [name], "DERIVES")
         if is_error:
             after = self.group_end(self.header_end(end))
             self.put_after(after - 1, impls(self.words[end:after]))
@@ -313,7 +307,6 @@ class Eraser:
             self.leave_out(name + 2, item)
             self.put(item, pointer)
             self.replace(item + 1, f", {word}_len: usize")
-            self.gone.append(f"{word}_len")
             slices += f"\n    let {word} = unsafe {{ crate::{of}({word}, {word}_len) }};"
         if "&" in self.words[at:end]:
             self.put(at - 2, "unsafe ")

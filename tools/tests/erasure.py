@@ -23,13 +23,10 @@ REFUSED = r"""
 1 unterminated: fn f() -> char { '⏎' }
 1 raw name: const r#crate: u32 = 1;
 1 quote: const TEXT: &[u8] = br"a\";
-1 ASCII: const K: u32 = 1;
 1 no end: fn f() { for n in 250u8.. {} }
 1 no end: fn f() { for (n, m) in rows.iter().zip(0u8..) {} }
 1 no end: fn f(n: N) -> Option<u8> { n.get(g(250u8..))? }
-1 `RangeFrom`: fn f(r: RangeFrom<u8>) { for n in r {} }
-1 `Drop`: fn f(n: N) -> N { n + Drop::drop(m) }
-2 `W`: struct W;⏎fn f<W: fmt::Write>(w: &Formatter<W>) -> A<{ N }> { W::size() }
+1 of std: fn f(r: RangeFrom<u8>) { for n in r {} }
 1 comment: fn f() ensures { -- }⏎} {}
 1 clause: fn f() -> u32 { if requires { return 1; } { 2 } }
 1 ghost: fn f(n: u32) { while n < ghost - 1 { return; } {} }
@@ -37,73 +34,35 @@ REFUSED = r"""
 1 raw text: fn f(r: u8) -> u8 ensures { two r"\" } { 2 } fn g() {} //" } { 1 }
 1 comment: ghost use M.{a, -- }; impl S { fn f(self) {} } use crate::m::{⏎b};
 1 Hasher: impl Hasher for H { fn finish(&self) -> u64 { 0 } }
-1 base: fn f(v: &[S], n: usize) -> S { S { a: 1, ..v[n] } }
-1 base: fn f(v: &[S], n: usize) -> S { S { a: 1, ..(v[n]) } }
 1 reference: impl<T: Mark> Told for &T { fn told(self) -> u8 { 1 } }
-1 FACTS: fn f(mut n: u8) -> u8 { let _bytes = { n = 2; }; n }
-1 FACTS: fn f(raw: u8) -> u8 { let _bytes = { return raw; }; 2 }
-1 FACTS: fn f(mut n: u8) -> u8 { let _bytes = crate::literal::store(&mut n); n }
 1 `zip`: fn f(s: &[u8]) -> usize { s.iter().map(|n| g(n)).zip(t).count() }
 1 `zip`: fn f(s: &[u8]) -> usize { Iterator::zip(s.iter().map(|n| g(n)), t).count() }
 1 `clone`: fn f() -> u8 { repeat_n(N(5), 1).next() }
 2 `{f`: #[derive(Error)]⏎#[error("{f:?}")]⏎struct Fault { f: N }
 2 `$`: #[derive(Error)]⏎#[error("{n:>w$}")]⏎struct Fault { n: u8, w: usize }
-1 MACROS: fn f() -> u32 { parts!(5 + Drop) }
-1 MACROS: fn f() -> u32 { depth!(font_base::facts) }
-1 MACROS: fn f() -> usize { stringify!(std::mem).len() }
-1 MACROS: fn f() -> bool { matches! { 1, 1 } }
-1 in a macro: fn f(n: u32) -> bool { matches!(n, crate::LIMIT) }
-1 defined: macro_rules! assert { ($all:tt) => {} }
-1 defined: static N: u32 = 1;
 1 ATTRIBUTES: #[macro_use]⏎mod facts;
 1 ATTRIBUTES: #[path = "other.rs"]⏎mod facts;
 1 tests: #[cfg(test)]⏎mod others;
 1 `unsafe`: #[unsafe(no_mangle)]⏎pub fn memcmp() {}
-1 DERIVES: #[derive(Other)]⏎struct S;
-1 `Drop`: const Drop: u32 = 3;⏎fn f(n: u32) -> u32 { n + Drop }
-2 trait: use json::{JsonFault, JsonScalar};⏎fn f(count: Count) -> u32 { count.size() }
-2 `AllocError`: use std::alloc::AllocError;⏎fn f(n: N) { match n { AllocError => 1 } }
-1 another name: use crate::facts::one as size_of;
 1 all: use super::*;
-1 `_bytes`: fn f(_bytes: u32, raw: Raw) -> u32 { let _bytes = raw.as_slice(); _bytes }
-1 another name: use crate as me;⏎fn f() -> u32 { me::laws::number() }
 1 `extern`: extern crate self as me;
-1 crate: mod std;
-2 within a file: pub⏎mod std { pub fn size() {} }
-1 `core`: pub mod core;
-1 `core`: use crate::parts::core;
-1 crate: struct font_base;
-1 crate: fn f(n: N) -> u32 { n.font_base::<u32>() }
-1 crate: fn f() -> u32 { self::std::fmt::number() }
 1 STD: use std::mem::swap;
-1 `thiserror`: mod thiserror;
-1 `assert`: use crate::parts::assert;
 // They depend on the compiler: Rust lays out this struct in 8 bytes, and C in 12.
-2 `size_of`: struct Row { tag: u8, at: u32, len: u8 }⏎fn f() -> usize { size_of::<Row>() }
-1 within a function: fn f() -> u32 { use crate::laws::number; number() }
-1 within another: fn f() -> impl Copy { fn g() {} }
-1 alias: type Number<'a> = &'a mut u32;
-1 `pub(..)`: impl S { pub(crate) fn f() {} }
+2 of std: struct Row { tag: u8, at: u32, len: u8 }⏎fn f() -> usize { size_of::<Row>() }
 1 `extern`: pub extern "C" fn memcmp() {}
-3 `bytes_len`: pub extern "C" fn fty_f(⏎    bytes: &[u8],⏎) -> usize { bytes_len() }
 1 all: pub use super::*;
 1 ATTRIBUTES: #[macro_export]⏎fn f() {}
 1 eraser writes: #[inline]⏎fn f() {}
 2 eraser writes: impl N {⏎    #[must_use]⏎    pub fn f(self) -> u8 { 1 } }
 1 `clone`: fn f(n: N) -> N { n.to_owned() }
 1 `clone`: fn f(n: N) { n.clone_from(m) }
-1 union: union U { n: u32 }
-1 within a function: fn f() { impl S {} }
-1 `needs_drop`: fn f() -> bool { needs_drop::<N>() }
+1 of std: fn f() -> bool { needs_drop::<N>() }
 1 no end: fn f() { let r = 5..; }
-1 DERIVES: #[derive(Clone, Other)]⏎struct S;
-1 base: fn f(n: usize) -> S { S { a: 1, ..g(n) } }
 1 `unsafe`: fn f(b: B) { unsafe { std::str::from_utf8_unchecked_mut(b) } }
 1 `clone`: fn f(n: N) -> bool { is(n.clone()) }
 1 `clone`: fn clone(&self) -> Result<N, AllocError> { Ok(N); Ok(M) }
 1 `clone`: fn clone(&self) -> Result<N, AllocError> { f(); Ok(N) }
 1 `clone`: fn clone(&self) -> Result<Option<N>, AllocError> { Ok(Some(g()?)) }
-2 `W`: struct W;⏎fn f<W: fmt::Write>(w: &W) -> u32 { w.size() }
 1 unknown kind: impl A for B { ghost other = { 2 }; }
 """
 
@@ -178,8 +137,8 @@ def rows(table):
     return [line.replace("⏎", "\n") for line in lines if not line.startswith("// ")]
 
 
-def erased(source, name="font_base", target="library", is_root=True):
-    return Eraser(source, Crate(name, target, ["facts", "json"]), is_root).written()
+def erased(source, name="font_base", target="library"):
+    return Eraser(source, Crate(name, target, ["facts", "json"]), True).written()
 
 
 class Erasure(unittest.TestCase):
@@ -207,12 +166,6 @@ class Erasure(unittest.TestCase):
         for path in width, changed, gone:
             self.assertEqual((self.folder / path).read_text(), (ROOT / path).read_text(), path)
 
-    def test_left_out_modules(self):
-        """A call that is kept could be of an `impl` that is left out."""
-        with open(self.folder / "crates/font_base/src/facts.rt", "a") as file:
-            file.write("\nimpl From<Uint24> for u64 {\n")
-        self.assertIn("`impl From<Uint24> for u64 {`, in a module", self.erase().stderr)
-
     def test_refused(self):
         for row in rows(REFUSED):
             where, source = row.split(": ", 1)
@@ -221,9 +174,6 @@ class Erasure(unittest.TestCase):
                 erased(source)
             found, told = error.exception.args
             self.assertTrue(str(found) == line and what in told, f"{row}: {found} {told}")
-        for source, is_root in ("fn f() { crate::g() }", True), ("mod inner;", False):
-            with self.assertRaises(Refused, msg=source):
-                erased(source, "variations", "variations", is_root)
 
     def test_changed(self):
         for row in rows(SAME) + rows(CHANGED):
