@@ -187,9 +187,8 @@ pub fn region_scalar(regions: &[u8], region: u16, coordinates: &[F2Dot14]) -> Op
 
 /// Writes the scalar of each region of a list, in order, and returns how many regions it has, those
 /// that it ends before left out. Returns `None` if there are more of them than `scalars`.
-#[must_use]
 #[tactic(auto, using(font_types::proofs::Callers::calls, crate::proofs::Stores::row_rules))]
-pub fn region_scalars(
+pub(crate) fn region_scalars(
     regions: &[u8],
     coordinates: &[F2Dot14],
     scalars: &mut [Fixed],
