@@ -1,0 +1,164 @@
+"""Products and quotients of two unknown numbers, of which the solver knows a few true facts."""
+
+from __future__ import annotations
+
+import operator
+from collections.abc import Callable, Iterator
+from typing import NamedTuple
+
+import z3
+from z3 import BitVecRef, BoolRef
+
+from values import NO, extend, is_constant
+
+Operation = Callable[[BitVecRef, BitVecRef], BitVecRef]
+
+
+class Quotient(NamedTuple):
+    bits: BitVecRef
+    divisor: BitVecRef
+
+
+class Arithmetic:
+    """A product or a quotient of two unknowns is an unknown function of them. What is proved of
+    every function with the facts is proved of the real one, because the facts are true of it.
+    `exact` computes the real one instead, for arguments that are known."""
+
+    def __init__(self, exact: bool = False) -> None:
+        self.exact = exact
+        self.facts: list[BoolRef] = []
+        self.quotients: list[Quotient] = []
+        # Each unknown result, the operation, and its operands.
+        self.nodes: list[tuple[BitVecRef, Operation, BitVecRef, BitVecRef]] = []
+        self.ranges: dict[int, tuple[BitVecRef, int]] = {}
+
+    def greatest(self, bits: BitVecRef) -> int:
+        """Returns a number that no value of `bits`, unsigned, exceeds."""
+        if bits.get_id() in self.ranges:
+            return self.ranges[bits.get_id()][1]
+        if is_constant(bits):
+            return int(bits.as_long())
+        if z3.is_app_of(bits, z3.Z3_OP_ZERO_EXT):
+            return self.greatest(bits.arg(0))
+        if z3.is_app_of(bits, z3.Z3_OP_CONCAT) and z3.simplify(bits.arg(0) == 0).eq(z3.BoolVal(True)):
+            return (1 << bits.size() - bits.arg(0).size()) - 1
+        return (1 << bits.size()) - 1
+
+    def keep(self, bits: BitVecRef, greatest: int) -> BitVecRef:
+        """Notes that the value of `bits`, unsigned, never exceeds `greatest`."""
+        if not is_constant(bits):
+            self.ranges[bits.get_id()] = bits, min(greatest, self.greatest(bits))
+        return bits
+
+    def signed_width(self, bits: BitVecRef) -> int:
+        """Returns how many bits hold the signed number."""
+        if z3.is_app_of(bits, z3.Z3_OP_SIGN_EXT):
+            return int(bits.arg(0).size())
+        if is_constant(bits):
+            return max(int(bits.as_signed_long()).bit_length() + 1, 2)
+        return min(self.greatest(bits).bit_length() + 1, int(bits.size()))
+
+    def magnitude(self, bits: BitVecRef) -> BitVecRef:
+        """Returns |x| as an unsigned number: at most 2^(w-1)."""
+        return self.keep(z3.If(bits < 0, -bits, bits), 1 << bits.size() - 1)
+
+    def unknown(
+        self, name: str, operation: Operation, a: BitVecRef, b: BitVecRef, greatest: int
+    ) -> tuple[BitVecRef, bool]:
+        """Returns an unknown result, and whether it is a new one."""
+        node = z3.Function(f"{name}{a.size()}", *[a.sort()] * 3)(a, b)
+        if node.get_id() in self.ranges:
+            return node, False
+        self.nodes.append((node, operation, a, b))
+        return self.keep(node, greatest), True
+
+    def multiply(self, a: BitVecRef, b: BitVecRef) -> BitVecRef:
+        """If -2^m <= a < 2^m and -2^n <= b < 2^n, and m + n < w - 1, then a b is at most 2^(m+n),
+        and at least the lesser of -2^m (2^n - 1) and -2^n (2^m - 1). If a <= x and b <= y, both
+        unsigned, and x y < 2^w, then a b <= x y. A product by 0 is 0."""
+        width, greatest = a.size(), self.greatest(a) * self.greatest(b)
+        if self.exact or is_constant(a) or is_constant(b):
+            return self.keep(a * b, greatest) if greatest < 1 << width else a * b
+        a, b = sorted((a, b), key=lambda it: int(z3.simplify(it).hash()))
+        node, is_new = self.unknown("product", operator.mul, a, b, min(greatest, (1 << width) - 1))
+        if greatest < 1 << width and is_new:
+            self.facts.append(z3.ULE(node, greatest))
+        m, n = (self.signed_width(it) - 1 for it in (a, b))
+        if m + n < width - 1 and is_new:
+            most, least = 1 << m + n, (1 << min(m, n)) - (1 << m + n)
+            self.facts.append(z3.And(node <= most, node >= least))
+            self.facts += [z3.Implies(it == 0, node == 0) for it in (a, b)]
+        return node
+
+    def multiply_overflows(self, a: BitVecRef, b: BitVecRef, signed: bool) -> BoolRef:
+        """`nsw`, `nuw`: the product of the integers is not in the width. It is, if the bounds of
+        both operands say so; else, of two unknowns, whether it is may be either."""
+        width, most = a.size(), self.greatest(a) * self.greatest(b)
+        narrow = signed and self.signed_width(a) + self.signed_width(b) - 2 < width - 1
+        if narrow or most < 1 << (width - 1 if signed else width):
+            return NO
+        if self.exact or is_constant(a) or is_constant(b):
+            wide = extend(signed, 2 * width, a) * extend(signed, 2 * width, b)
+            return extend(signed, 2 * width, a * b) != wide
+        sorts = [a.sort(), b.sort(), z3.BoolSort()]
+        return z3.Function(f"overflows{width}{signed}", *sorts)(a, b)
+
+    def divide(self, n: BitVecRef, d: BitVecRef) -> BitVecRef:
+        """The quotient q of unsigned numbers: if d is not 0, then q <= n and q d <= n < q d + d,
+        where the product does not wrap, because it is at most n."""
+        if self.exact or is_constant(d):
+            return self.narrowed(z3.UDiv, n, d)
+        q, is_new = self.unknown("quotient", z3.UDiv, n, d, self.greatest(n))
+        if is_new:
+            self.quotients.append(Quotient(q, d))
+            product = self.multiply(q, d)
+            whole = z3.And(z3.ULE(product, n), z3.ULT(n - product, d), z3.ULE(q, n))
+            self.facts.append(z3.Implies(d != 0, whole))
+            self.add_nearest(product, n, d)
+        return q
+
+    def narrowed(self, operation: Operation, n: BitVecRef, d: BitVecRef) -> BitVecRef:
+        """Returns a quotient or remainder by a constant, computed in the bits that both need."""
+        high, width = self.greatest(n), n.size()
+        bits = max(high.bit_length(), self.greatest(d).bit_length())
+        if is_constant(n) or not is_constant(d) or not d.as_long() or bits >= width:
+            return operation(n, d)
+        low = operation(z3.Extract(bits - 1, 0, n), z3.Extract(bits - 1, 0, d))
+        by = int(d.as_long())
+        return self.keep(z3.ZeroExt(width - bits, low), high // by if operation is z3.UDiv else by - 1)
+
+    def add_nearest(self, product: BitVecRef, n: BitVecRef, d: BitVecRef) -> None:
+        """The lemma NEAREST, if n is the sum of a number a and of floor(d / 2), and cannot wrap."""
+        for a, half in (n.children(), n.children()[::-1]) if z3.is_app_of(n, z3.Z3_OP_BADD) else ():
+            fits = self.greatest(a) + self.greatest(half) < 1 << n.size()
+            if half.eq(z3.LShR(d, 1)) and fits:
+                m, a, wide = (z3.ZeroExt(2, it) for it in (product, a, d))
+                near = z3.And(2 * (m - a) <= wide, 2 * (a - m) < wide)
+                self.facts.append(z3.Implies(d != 0, near))
+
+    def contradicted(self, values: list[tuple[BitVecRef, BitVecRef]]) -> BoolRef | None:
+        """Returns a fact that is false of the real products and quotients of these arguments."""
+        known = list(values)
+        for node, operation, a, b in self.nodes:
+            real = operation(z3.substitute(a, *known), z3.substitute(b, *known))
+            known.append((node, z3.simplify(real)))
+        false = (it for it in self.facts if z3.is_false(z3.simplify(z3.substitute(it, *known))))
+        return next(false, None)
+
+
+def lemmas() -> Iterator[tuple[str, BoolRef]]:
+    """The arithmetic of integers that the facts of quotients rest on."""
+    a, d, h, m, p, q, r = z3.Ints("a d h m p q r")
+
+    def is_nearest(product: z3.ArithRef) -> BoolRef:
+        return z3.And(2 * (product - a) <= d, 2 * (a - product) < d)
+
+    # The multiple m of d by the quotient of a + floor(d / 2) and d is the nearest to a, upward.
+    yield "NEAREST", z3.Implies(
+        z3.And(d > 0, 2 * h <= d, d <= 2 * h + 1, m <= a + h, a + h < m + d), is_nearest(m)
+    )
+    # Only one multiple is nearest, so that "a nearest" is "the nearest".
+    yield "UNIQUE", z3.Implies(
+        z3.And(d > 0, q == r + 1 + p, p >= 0, p * d >= 0),
+        z3.Not(z3.And(is_nearest(q * d), is_nearest(r * d))),
+    )

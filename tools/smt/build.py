@@ -1,0 +1,84 @@
+"""Compiles the package, with a wrapper for each function, to LLVM's IR and to a library."""
+
+from __future__ import annotations
+
+import shutil
+import subprocess
+from pathlib import Path
+from typing import NamedTuple
+
+from cases import Case
+
+# How a slice of unknown length is passed: the type of its elements.
+SLICES = {"bytes": "u8", "room": "u8", "terms": "(Fixed, i32)"}
+HEAD = """
+#[allow(warnings)]
+#[allow(clippy::all)]
+pub mod wrappers {
+extern crate std;
+use super::*;
+"""
+OPTIONS = """--edition 2024 --crate-type cdylib --crate-name kernel --cap-lints allow
+    -C opt-level=2 -C codegen-units=1 -C panic=abort -C no-vectorize-loops -C no-vectorize-slp
+    --emit llvm-ir,link""".split()
+
+
+class Built(NamedTuple):
+    ir: str
+    library: Path
+
+
+class Refusal(Exception):
+    """What rustc says of Rust that it does not compile."""
+
+
+def returned(type_: str, value: str) -> tuple[str, str]:
+    """Returns the integer type that a wrapper returns, and the integer."""
+    if type_[0] == "?":
+        width = int(type_[2:])
+        some = f"1u{2 * width} << {width} | it as u{width} as u{2 * width}"
+        return f"u{2 * width}", f"match {value} {{ Some(it) => {some}, None => 0 }}"
+    if type_ == "[3]":
+        return "u32", f"{{ let it = {value}; u32::from_le_bytes([it[0], it[1], it[2], 0]) }}"
+    if type_[0] == "[":
+        width = 8 * int(type_[1:-1])
+        return f"u{width}", f"u{width}::from_le_bytes({value})"
+    return type_, value
+
+
+def wrapper(case: Case) -> str:
+    """Returns two functions of C: one of the arguments, which is proved, and one of a row of
+    numbers, by which Python calls it."""
+    result, value = returned(case.returns, case.body)
+    parameters, given = [], []
+    for name, type_ in case.parameters:
+        if type_ in SLICES:
+            way, mut = ("mut", "_mut") if type_ == "room" else ("const", "")
+            pointer, of = f"*{way} {SLICES[type_]}", f"core::slice::from_raw_parts{mut}"
+            parameters += [f"{name}: {pointer}", f"{name}_length: usize"]
+            value = f"let {name} = unsafe {{ {of}({name}, {name}_length) }};\n{value}"
+            given += [pointer, "usize"]
+        else:
+            parameters.append(f"{name}: {type_}")
+            given.append(type_)
+    numbers = ", ".join(f"numbers[{i}] as {type_}" for i, type_ in enumerate(given))
+    head = '#[unsafe(no_mangle)] pub extern "C" fn'
+    return (
+        f"{head} {case.symbol}({', '.join(parameters)}) -> {result} {{ {value} }}\n"
+        f"{head} call_{case.symbol}(numbers: &[u128; 14], result: &mut u128)\n"
+        f"{{ *result = {case.symbol}({numbers}) as u128; }}\n"
+    )
+
+
+def build(tree: Path, room: Path, cases: list[Case], checked: bool) -> Built:
+    """Compiles a copy of the package in a room: as `cargo build --release` does or, checked, with
+    checks of overflow and debug assertions."""
+    shutil.copytree(tree / "src", room / "src")
+    with (room / "src/lib.rs").open("a") as lib:
+        lib.write(HEAD + "".join(map(wrapper, cases)) + "}\n")
+    checks = [f"-C{it}={'on' if checked else 'off'}" for it in ("overflow-checks", "debug-assertions")]
+    command = ["rustc", *OPTIONS, *checks, "--out-dir", str(room), str(room / "src/lib.rs")]
+    done = subprocess.run(command, capture_output=True, text=True)
+    if done.returncode:
+        raise Refusal(done.stderr)
+    return Built((room / "kernel.ll").read_text(), room / "libkernel.so")

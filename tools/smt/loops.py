@@ -1,0 +1,114 @@
+"""A loop that adds up terms: an invariant instead of turns, so that there may be any number."""
+
+from __future__ import annotations
+
+import re
+
+import z3
+from z3 import BitVecRef, BoolRef
+
+from ir import LABEL, Function, Instruction
+from rules import Sums
+from state import Goals, State
+from values import Address, Number, Unsupported, Value, address_of, constant, extend, number_of
+
+SIZE = 8
+
+
+class Head:
+    """The head of a loop: which name has an address, which count and by how much a turn, and how
+    many terms a turn adds. The names are guessed: a wrong guess has a false invariant."""
+
+    def __init__(self, block: list[Instruction], values: dict[str, Value]) -> None:
+        self.entered = values
+        self.address = next((it for it in values if isinstance(values[it], Address)), "")
+        if not self.address:
+            raise Unsupported("a loop over no array")
+        self.counts: dict[str, int] = {}
+        self.terms = 1
+        for it in block:
+            found = re.fullmatch(r"(?:nuw |nsw )*i64 (\S+), (-?\d+)", it.text)
+            if it.op == "add" and found and found[1] in values:
+                self.counts[found[1]] = int(found[2])
+            found = re.fullmatch(rf".* {re.escape(self.address)}, i64 (\d+)", it.text)
+            if it.op == "getelementptr" and found:
+                self.terms = max(self.terms, int(found[1]) // SIZE)
+
+
+class Loops:
+    """The invariant of a loop over n terms, before a turn of s terms of which k are done: s more
+    are there; the address is that of term k; each other name has the sum of the first k terms, in
+    its width, or counts the turns."""
+
+    def __init__(self, goals: Goals, sums: Sums, text: str, count: BitVecRef) -> None:
+        self.goals, self.sums, self.text, self.count = goals, sums, text, count
+        self.heads: list[Head] = []
+
+    def is_head(self, function: Function, block: str) -> bool:
+        """Returns whether a block can be reached again from itself."""
+        seen: set[str] = set()
+        ahead = [block]
+        while ahead:
+            last = function.blocks[ahead.pop()][-1]
+            new = set(LABEL.findall(last.text)) - seen
+            seen |= new
+            ahead += new
+        return block in seen
+
+    def at_head(
+        self,
+        function: Function,
+        block: str,
+        phis: list[Instruction],
+        values: dict[str, Value],
+        state: State,
+    ) -> dict[str, Value] | None:
+        """Before the first turn, shows the invariant and returns any values that meet it. After a
+        turn, shows that the values meet it again."""
+        if state.visits[block] > 1:
+            self.show(self.heads[state.visits[f"head {block}"]], values, state)
+            return None
+        head = Head(function.blocks[block], values)
+        self.show(head, values, state)
+        state.visits[f"head {block}"] = len(self.heads)
+        self.heads.append(head)
+        offset = z3.BitVec(f"offset{len(self.heads)}", 64)
+        unknown: dict[str, Value] = {head.address: Address(self.text, offset)}
+        for name, it in values.items():
+            if name != head.address:
+                unknown[name] = Number(self.expected(head, name, number_of(it), offset))
+        state.conditions.extend(self.invariant(head, offset))
+        self.sums.define(offset, head.terms)
+        return unknown
+
+    def expected(self, head: Head, name: str, now: Number, offset: BitVecRef) -> BitVecRef:
+        """Returns what a name has by the invariant."""
+        if name not in head.counts:
+            return self.sums.before(offset, now.bits.size())
+        done = offset - address_of(head.entered[head.address]).offset
+        turns = z3.UDiv(done, constant(head.terms * SIZE))
+        return number_of(head.entered[name]).bits + turns * head.counts[name]
+
+    def show(self, head: Head, values: dict[str, Value], state: State) -> None:
+        address = address_of(values[head.address])
+        if address.object != self.text:
+            raise Unsupported("a loop over another array")
+        parts = self.invariant(head, address.offset)
+        for name, it in values.items():
+            if isinstance(it, Number):
+                parts.append(it.bits == self.expected(head, name, it, address.offset))
+            if not isinstance(it, list):
+                parts.append(z3.Not(it.poison))
+        for part in parts:
+            self.goals.check("the invariant of a loop is false", z3.Not(part), state)
+
+    def invariant(self, head: Head, offset: BitVecRef) -> list[BoolRef]:
+        began, size = address_of(head.entered[head.address]).offset, head.terms * SIZE
+        end = self.count * SIZE
+        return [
+            z3.ULE(began, offset),
+            z3.ULE(offset, end),
+            z3.UGE(end - offset, size),
+            offset & SIZE - 1 == 0,
+            z3.URem(offset - began, size) == 0,
+        ]

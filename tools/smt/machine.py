@@ -1,0 +1,274 @@
+"""Runs a function of LLVM's IR on unknown arguments, path by path.
+
+A path ends in one of three ways: it returns, it has undefined behavior, or it panics. `Goals` has
+to refute each condition under which it does one of the last two."""
+
+from __future__ import annotations
+
+import re
+from collections.abc import Iterator, Sequence
+from contextlib import suppress
+from typing import NamedTuple
+
+import z3
+from z3 import BitVecRef, BoolRef
+
+import steps
+from arithmetic import Arithmetic
+from ir import LABEL, NAME, Attributes, Function, Instruction, Module, split_commas, take_attributes, take_type
+from loops import Loops
+from memory import Memory, Object, globals_of
+from state import Goals, State
+from values import (
+    NO, YES, Address, Ended, Number, Unsupported, Value, any_of, constant, is_set, number_of,
+)  # fmt: skip
+
+PANICS = re.compile(r"panic|unwrap_failed|expect_failed|slice_index|len_mismatch")
+PHI = re.compile(rf"\[ (.*?), ({NAME}) \]")
+
+
+class End(NamedTuple):
+    """How a path returns."""
+
+    value: Value
+    memory: dict[str, Object]
+    conditions: list[BoolRef]
+
+
+class Machine:
+    def __init__(
+        self, module: Module, arithmetic: Arithmetic, goals: Goals, loops: Loops | None = None
+    ) -> None:
+        self.module, self.arithmetic, self.goals, self.loops = module, arithmetic, goals, loops
+        self.memory = Memory(goals)
+        self.globals = globals_of(module)
+        self.count = 0
+
+    def name(self, kind: str) -> str:
+        self.count += 1
+        return f"{kind}{self.count}"
+
+    def unknown(self, width: int) -> BitVecRef:
+        return z3.BitVec(self.name("unknown"), width)
+
+    def run(
+        self,
+        name: str,
+        arguments: Sequence[Value],
+        memory: dict[str, Object],
+        conditions: list[BoolRef],
+    ) -> Iterator[End]:
+        """Yields what each path returns."""
+        function = self.module.functions[name]
+        names, first = {}, next(iter(function.blocks))
+        state = State(first, 0, "", names, {**self.globals, **memory}, list(conditions), {})
+        for (_, attributes, parameter), argument in zip(function.parameters, arguments):
+            names[parameter] = self.promised(argument, attributes, state)
+        paths = [state]
+        while paths:
+            with suppress(Ended):
+                yield from self.go_on(function, paths.pop(), paths)
+
+    def promised(self, value: Value, attributes: Attributes, state: State) -> Value:
+        """`range`, `nonnull` and `align` make another value poison. `noundef` makes poison
+        undefined behavior."""
+        if isinstance(value, Number) and attributes.range:
+            value = Number(value.bits, any_of(value.poison, out_of(attributes.range, value.bits)))
+        if isinstance(value, Address) and attributes.nonnull:
+            value = value._replace(poison=any_of(value.poison, steps.is_null(value)))
+        if attributes.noundef and not isinstance(value, list):
+            self.goals.check("`noundef` of poison", value.poison, state)
+        return value
+
+    def go_on(self, function: Function, state: State, paths: list[State]) -> Iterator[End]:
+        """Runs a path to its end or to where it branches."""
+        block = function.blocks[state.block]
+        for index in range(state.index, len(block)):
+            it = block[index]
+            if it.op == "ret":
+                if it.text == "void":
+                    raise Unsupported("a function without a result")
+                value = self.promised(self.value(*take_type(it.text), state), function.returns, state)
+                yield End(value, state.memory, state.conditions)
+            elif it.op == "unreachable":
+                self.goals.bad("`unreachable` is reached", state)
+            elif it.op in ("br", "switch"):
+                self.branch(function, it, state, paths)
+            elif it.op == "call" and (called := self.called(it)):
+                self.call(it, *called, state._replace(index=index + 1), paths)
+                return
+            elif it.op != "phi":
+                value = steps.step(self, it, state)
+                if value is not None:
+                    state.names[it.target] = self.described(value, it, state)
+
+    def described(self, value: Value, it: Instruction, state: State) -> Value:
+        """The metadata of a load or of a call: `!range` makes another value poison, `!noundef`
+        makes poison undefined behavior."""
+        known = {"range", "noundef", "nonnull", "alias.scope", "noalias", "prof"}
+        if it.metadata.keys() - known:
+            raise Unsupported(f"metadata {it.metadata}")
+        bounds = None
+        if "range" in it.metadata:
+            found = re.findall(r"i\d+ (-?\d+)", self.module.metadata[it.metadata["range"]])
+            if len(found) != 2:
+                raise Unsupported("a range of several parts")
+            bounds = int(found[0]), int(found[1])
+        kept = Attributes("noundef" in it.metadata, "nonnull" in it.metadata, bounds)
+        return self.promised(value, kept, state)
+
+    # ------------------------------------------------------------ branches
+
+    def branch(
+        self, function: Function, it: Instruction, state: State, paths: list[State]
+    ) -> None:
+        """A branch or a switch on poison is undefined behavior."""
+        labels = LABEL.findall(it.text)
+        if it.op == "br" and len(labels) == 1:
+            targets = {labels[0]: YES}
+        elif it.op == "br":
+            condition = number_of(self.value("i1", it.text[3:].split(",")[0], state))
+            self.goals.check("a branch on poison", condition.poison, state)
+            yes = is_set(condition.bits)
+            targets = {labels[0]: yes, labels[1]: z3.Not(yes)}
+            if labels[0] == labels[1]:
+                targets = {labels[0]: YES}
+        else:
+            targets = self.switch(it, state)
+        for label, condition in targets.items():
+            condition = z3.simplify(condition)
+            if not z3.is_false(condition):
+                with suppress(Ended):
+                    self.jump(function, label, condition, state, paths)
+
+    def switch(self, it: Instruction, state: State) -> dict[str, BoolRef]:
+        type_, rest = take_type(it.text)
+        value = number_of(self.value(type_, rest.split(",")[0], state))
+        self.goals.check("a switch on poison", value.poison, state)
+        targets: dict[str, BoolRef] = {}
+        others = []
+        for number, label in re.findall(rf"i\d+ (-?\w+), label ({NAME})", it.text.split("[", 1)[1]):
+            same = value.bits == number_of(self.value(type_, number, state)).bits
+            targets[label] = z3.Or(targets.get(label, NO), same)
+            others.append(z3.Not(same))
+        default = LABEL.findall(it.text)[0]
+        targets[default] = z3.Or(targets.get(default, NO), z3.And(others))
+        return targets
+
+    def jump(
+        self, function: Function, target: str, condition: BoolRef, state: State, paths: list[State]
+    ) -> None:
+        """Goes on at a block, if the condition of the path can be met. The phis of a block read
+        their values at once, before any of them has a new one."""
+        state = state.copy()
+        if not z3.is_true(condition):
+            state.conditions.append(condition)
+        state.visits[target] = state.visits.get(target, 0) + 1
+        if state.visits[target] > 1 and not z3.is_true(condition) and not possible(state):
+            return
+        if state.visits[target] > 400:
+            raise Unsupported("a loop of more than 400 turns")
+        phis = [it for it in function.blocks[target] if it.op == "phi"]
+        values = {it.target: self.phi(it, state) for it in phis}
+        if self.loops and self.loops.is_head(function, target):
+            found = self.loops.at_head(function, target, phis, values, state)
+            if found is None:
+                return
+            values = found
+        paths.append(state._replace(block=target, index=0, before=state.block, names=state.names | values))
+
+    def phi(self, it: Instruction, state: State) -> Value:
+        type_, rest = take_type(it.text)
+        for text, block in PHI.findall(rest):
+            if block == state.block:
+                return self.value(type_, text, state)
+        raise Unsupported(f"phi of {state.block}: {it.text}")
+
+    # ------------------------------------------------------------ calls
+
+    def called(self, it: Instruction) -> tuple[Attributes, str, list[str]] | None:
+        """Returns the promises, the name and the arguments of a call but of an intrinsic."""
+        returns, text = take_attributes(it.text)
+        found = re.match(rf"({NAME})\((.*)\)$", take_type(text)[1])
+        if not found:
+            raise Unsupported(f"call {it.text}")
+        if found[1].startswith("@llvm."):
+            return None
+        return returns, found[1], split_commas(found[2])
+
+    def argument(self, text: str, state: State) -> Value:
+        type_, rest = take_type(text)
+        attributes, rest = take_attributes(rest)
+        return self.promised(self.value(type_, rest, state), attributes, state)
+
+    def call(
+        self,
+        it: Instruction,
+        returns: Attributes,
+        name: str,
+        texts: list[str],
+        state: State,
+        paths: list[State],
+    ) -> None:
+        if PANICS.search(name):
+            self.goals.panic(name[-60:], state)
+        values = [self.argument(text, state) for text in texts]
+        if name in ("@bcmp", "@memcmp"):
+            state.names[it.target] = steps.compare_memory(self, name, values, state)
+            paths.append(state)
+            return
+        if name not in self.module.functions:
+            raise Unsupported(f"call of {name}")
+        for end in self.run(name, values, state.memory, state.conditions):
+            after = state._replace(memory=end.memory, conditions=end.conditions).copy()
+            with suppress(Ended):
+                after.names[it.target] = self.promised(end.value, returns, after)
+                paths.append(after)
+
+    # ------------------------------------------------------------ operands
+
+    def value(self, type_: str, text: str, state: State) -> Value:
+        """Returns an operand. `undef` is taken for poison, of which less is known."""
+        if text[0] == "%":
+            return state.names[text]
+        if type_ == "ptr":
+            return self.address(text, state)
+        if type_[0] == "{":
+            parts = split_commas(type_[1:-1])
+            if text in ("poison", "undef"):
+                return [self.value(part, text, state) for part in parts]
+        if type_[0] != "i":
+            raise Unsupported(f"{type_} {text}")
+        width = int(type_[1:])
+        if text in ("poison", "undef"):
+            return Number(constant(0, width), YES)
+        return Number(constant(int({"true": "1", "false": "0"}.get(text, text)), width))
+
+    def address(self, text: str, state: State) -> Address:
+        if text in ("null", "poison", "undef"):
+            return Address(None, constant(0), NO if text == "null" else YES)
+        if text[0] == "@":
+            return Address(text, constant(0))
+        if found := re.match(r"getelementptr (.*?)\((.*)\)$", text):
+            return steps.element(self, found[1] + found[2], state)
+        if found := re.match(r"inttoptr \(i64 (\d+) to ptr\)$", text):
+            return Address(None, constant(int(found[1])))
+        raise Unsupported(f"address {text}")
+
+
+def possible(state: State) -> bool:
+    solver = z3.Solver()
+    solver.set("timeout", 60000)
+    solver.add(state.conditions)
+    return bool(solver.check() != z3.unsat)
+
+
+def out_of(bounds: tuple[int, int], bits: BitVecRef) -> BoolRef:
+    """`range(low, high)`: low and what follows it up to high, which is not in it; it may wrap."""
+    low, high = (constant(it, bits.size()) for it in bounds)
+    inside = z3.And if bounds_in_order(low, high) else z3.Or
+    return z3.Not(inside(z3.UGE(bits, low), z3.ULT(bits, high)))
+
+
+def bounds_in_order(low: BitVecRef, high: BitVecRef) -> bool:
+    return bool(z3.is_true(z3.simplify(z3.ULT(low, high))))

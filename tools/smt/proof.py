@@ -1,0 +1,187 @@
+"""The proof of one function: for every argument, the result is right and nothing is undefined."""
+
+from __future__ import annotations
+
+import ctypes
+import random
+import re
+import time
+from pathlib import Path
+from typing import Any
+
+import z3
+from z3 import BoolRef
+
+from arithmetic import Arithmetic
+from cases import Case
+from inputs import (
+    Given, Inputs, byte_of, chosen, inputs, of_model, run_library, shown, shown_result,
+)  # fmt: skip
+from ir import Module
+from loops import Loops
+from machine import End, Machine
+from memory import Slice
+from rules import Products, Sums, Text, use_width
+from state import Goals
+from values import Unsupported, constant, is_constant, number_of
+
+# How long the solver may think about one goal, in milliseconds.
+TIME = 120_000
+# How long arguments are looked for that show a fault, in seconds.
+SEARCH = 10
+# The most elements of a slice in an argument that is shown.
+MOST = 12
+
+
+class Refused(Exception):
+    """The function is wrong, with an argument that shows it."""
+
+
+class Unknown(Exception):
+    """The function is not proved."""
+
+
+class Proof:
+    def __init__(
+        self, module: Module, case: Case, library: ctypes.CDLL, goals: Path | None = None
+    ) -> None:
+        self.module, self.case, self.library, self.folder = module, case, library, goals
+        self.goals = self.asked = self.agreed = 0
+        self.is_met = False
+        use_width(200 if case.has("i128", "terms") or "i128" in case.returns else 90)
+
+    def run(self) -> None:
+        """Proves the function, or raises why not."""
+        self.arithmetic = Arithmetic()
+        self.products = Products(self.arithmetic)
+        self.given = inputs(self.case, self.products)
+        goals, loops = Goals(self.refute), None
+        if self.case.has("terms"):
+            name = next(name for name, type_ in self.case.parameters if type_ == "terms")
+            sums = next(it for it in self.given.of_rule if isinstance(it, Sums))
+            loops = Loops(goals, sums, name, sums.count)
+        machine = Machine(self.module, self.arithmetic, goals, loops)
+        of_case = self.given.arguments, self.given.memory, self.given.conditions
+        for end in machine.run(f"@{self.case.symbol}", *of_case):
+            value = number_of(end.value)
+            self.refute("undefined behavior: the result is poison", end.conditions + [value.poison])
+            right = self.right(self.products, self.given, value.bits, end)
+            self.refute("wrong result", end.conditions + [z3.Not(right)])
+            self.is_met = self.is_met or self.solver(z3.And(end.conditions)).check() == z3.sat
+        if not self.is_met:
+            raise Unknown("no argument is known for which it returns")
+        self.check_facts()
+
+    def right(self, products: Products, given: Inputs, result: Any, end: End | None = None) -> BoolRef:
+        """Returns the rule's condition of a result and of what the function leaves in a slice."""
+        case, of_rule = self.case, list(given.of_rule)
+        if not case.is_relation:
+            expected = case.rule(products, *of_rule)
+            return z3.ZeroExt(result.size() - expected.size(), expected) == result
+        if case.has("room"):
+            memory = end.memory if end else given.memory
+            after = [it for name, it in memory.items() if name in given.memory]
+            of_rule += [Text(it.length, it.byte) for it in after if isinstance(it, Slice)]
+            of_rule.insert(-1, result)
+        else:
+            of_rule.append(result)
+        return case.rule(products, *of_rule)
+
+    def solver(self, goal: BoolRef) -> Any:
+        solver = z3.SolverFor("QF_UFBV")
+        solver.set("timeout", TIME)
+        solver.add(goal, *self.arithmetic.facts)
+        return solver
+
+    def refute(self, why: str, conditions: list[BoolRef]) -> None:
+        """Shows that the conditions exclude each other."""
+        self.goals += 1
+        goal = z3.simplify(z3.And(conditions))
+        if z3.is_false(goal):
+            return
+        self.asked += 1
+        solver = self.solver(goal)
+        if self.folder:
+            name = re.sub(r"\W+", "_", self.case.name) + f"_{self.goals}.smt2"
+            (self.folder / name).write_text("(set-logic QF_UFBV)\n" + solver.to_smt2())
+        answer = solver.check()
+        if answer == z3.unsat:
+            return
+        if answer == z3.sat:
+            for name, it in self.given.variables.items():
+                solver.add(z3.ULE(it, MOST)) if name.endswith("_length") else None
+            if solver.check() == z3.sat:
+                self.judge(of_model(self.case, solver.model()))
+        self.search()
+        raise Unknown(f"{why}: the solver says {answer}, and no argument is known that shows it")
+
+    # ------------------------------------------------------------ arguments that are known
+
+    def judge(self, given: Given) -> None:
+        """Runs the function on arguments, by the reader and by the processor. Raises `Refused` if
+        they differ, or if a goal or the rule is false of the arguments."""
+        found: list[str] = []
+
+        def refute(why: str, conditions: list[BoolRef]) -> None:
+            if z3.is_true(z3.simplify(z3.And(conditions))):
+                found.append(why)
+
+        products = Products(Arithmetic(exact=True))
+        known = inputs(self.case, products, given)
+        machine = Machine(self.module, products.arithmetic, Goals(refute))
+        ends = list(machine.run(f"@{self.case.symbol}", known.arguments, known.memory, []))
+        at = f"at {shown(self.case, given)}"
+        for end in ends:
+            refute("undefined behavior: the result is poison", [number_of(end.value).poison])
+        if found:
+            raise Refused(f"{found[0]} {at}")
+        result, left = run_library(self.library, self.case, given)
+        here = known._replace(memory={
+            name: Slice(constant(len(data)), 1, byte_of(data)) for name, data in left.items()
+        })  # fmt: skip
+        (end,) = ends
+        read = z3.simplify(number_of(end.value).bits)
+        same = read.eq(constant(result, read.size()))
+        for name, data in left.items():
+            it = end.memory[name]
+            assert isinstance(it, Slice)
+            same &= all(it.byte(constant(i)).eq(constant(byte, 8)) for i, byte in enumerate(data))
+        if not same:
+            raise Refused(f"the reader says {read}, and the processor {result}, {at}")
+        self.compare(products, here, result, at)
+
+    def compare(self, products: Products, given: Inputs, result: int, at: str) -> None:
+        end_width = number_width(self.case)
+        solver = z3.Solver()
+        solver.add(z3.Not(self.right(products, given, constant(result, end_width))))
+        if solver.check() != z3.unsat:
+            raise Refused(f"the compiled Rust returns {shown_result(self.case, result)} {at}")
+
+    def search(self) -> None:
+        """Looks for arguments for which the function is wrong."""
+        chance, end = random.Random(0), time.process_time() + SEARCH
+        while time.process_time() < end:
+            self.judge(chosen(self.case, chance))
+
+    def sample(self, turns: int) -> None:
+        """Runs so many arguments by chance."""
+        chance = random.Random(self.case.name)
+        for _ in range(turns):
+            self.judge(chosen(self.case, chance))
+            self.agreed += 1
+
+    def check_facts(self) -> None:
+        """The facts are true of the real products and quotients of some arguments."""
+        chance = random.Random(self.case.name)
+        for _ in range(3 if self.arithmetic.nodes else 0):
+            given = chosen(self.case, chance)
+            values = [(it, constant(given[name], it.size())) for name, it in self.given.variables.items() if name in given]
+            fact = self.arithmetic.contradicted(values)
+            if fact is not None:
+                raise Unknown(f"a fact is false at {shown(self.case, given)}: {fact}")
+
+
+def number_width(case: Case) -> int:
+    from inputs import result_width
+
+    return result_width(case)

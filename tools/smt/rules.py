@@ -1,0 +1,282 @@
+"""What the functions have to do, as docs/PROMISES.md and OpenType say it. Whoever trusts the proof
+has to agree with this page and with `cases.py`.
+
+A number is a vector of W bits, which is read as a signed integer. No sum or product below reaches
+2^(W-1), so that this is arithmetic of integers. A division by 2^k is a shift: `>>` rounds down."""
+
+from __future__ import annotations
+
+from collections.abc import Callable, Sequence
+from typing import NamedTuple
+
+import z3
+from z3 import BitVecRef, BoolRef
+
+from arithmetic import Arithmetic
+
+W = 90
+
+
+def use_width(width: int) -> None:
+    global W
+    W = width
+
+
+def S(bits: BitVecRef) -> BitVecRef:
+    """The signed number of a vector, in two's complement."""
+    return z3.SignExt(W - bits.size(), bits)
+
+
+def U(bits: BitVecRef) -> BitVecRef:
+    """The unsigned number of a vector."""
+    return z3.ZeroExt(W - bits.size(), bits)
+
+
+def N(number: int) -> BitVecRef:
+    return z3.BitVecVal(number, W)
+
+
+def B(condition: BoolRef) -> BitVecRef:
+    """A `bool` of Rust."""
+    return z3.If(condition, z3.BitVecVal(1, 1), z3.BitVecVal(0, 1))
+
+
+# ---------------------------------------------------------------- ranges
+
+
+def fits(bits: int, n: BitVecRef) -> BoolRef:
+    """-2^(bits-1) <= n < 2^(bits-1)."""
+    return z3.And(N(-(1 << bits - 1)) <= n, n < N(1 << bits - 1))
+
+
+def fits_unsigned(bits: int, n: BitVecRef) -> BoolRef:
+    return z3.And(N(0) <= n, n < N(1 << bits))
+
+
+def wrap(bits: int, n: BitVecRef, width: int = 0) -> BitVecRef:
+    """"Wraps" means that the result is reduced to `bits` in two's complement. `width` is of the
+    type that holds it."""
+    return z3.SignExt(max(width - bits, 0), z3.Extract(bits - 1, 0, n))
+
+
+def saturate(bits: int, n: BitVecRef) -> BitVecRef:
+    """The nearest number that fits."""
+    low, high = N(-(1 << bits - 1)), N((1 << bits - 1) - 1)
+    return wrap(bits, z3.If(n < low, low, z3.If(n > high, high, n)))
+
+
+def low(n: BitVecRef, high: int) -> BitVecRef:
+    """The lesser of two numbers: "`new` saturates"."""
+    return z3.If(n > N(high), N(high), n)
+
+
+def some(fit: BoolRef, value: BitVecRef) -> BitVecRef:
+    """An `Option` as the wrappers return it: above the value a bit that says `Some`; or 0."""
+    width = value.size()
+    return z3.If(fit, z3.Concat(z3.BitVecVal(1, width), value), z3.BitVecVal(0, 2 * width))
+
+
+def checked(bits: int, n: BitVecRef) -> BitVecRef:
+    """"`checked_*`: `None` if the result is out of range"."""
+    return some(fits(bits, n), wrap(bits, n))
+
+
+# ---------------------------------------------------------------- rounding
+
+
+def absolute(n: BitVecRef) -> BitVecRef:
+    return z3.If(n < 0, -n, n)
+
+
+def whole(n: BitVecRef, k: int) -> BitVecRef:
+    """"`floor` is the greatest integer that is not above the value", in units of 2^-k."""
+    return (n >> k) * (1 << k)
+
+
+def up(n: BitVecRef, k: int) -> BitVecRef:
+    """n / 2^k, rounded "half up": floor(n / 2^k + 1/2)."""
+    return (2 * n + (1 << k)) >> k + 1
+
+
+def near(n: BitVecRef, k: int) -> BitVecRef:
+    """n / 2^k, rounded "half away from zero": the sign of n, and floor(|n| / 2^k + 1/2)."""
+    rounded = up(absolute(n), k)
+    return z3.If(n < 0, -rounded, rounded)
+
+
+class Products:
+    """Products and quotients of unknown numbers."""
+
+    def __init__(self, arithmetic: Arithmetic) -> None:
+        self.arithmetic = arithmetic
+
+    def times(self, x: BitVecRef, y: BitVecRef) -> BitVecRef:
+        """The product of two signed numbers of 32 bits, which fits in 64."""
+        wide = (z3.SignExt(64 - it.size(), it) for it in (x, y))
+        return S(self.arithmetic.multiply(*wide))
+
+    def sum(self, *factors: BitVecRef) -> BitVecRef:
+        """The sum of products of two."""
+        total = N(0)
+        for x, y in zip(factors[::2], factors[1::2]):
+            total = total + self.times(x, y)
+        return total
+
+    def quotients(
+        self, x: BitVecRef, a: BitVecRef, c: BitVecRef
+    ) -> list[tuple[BitVecRef, BoolRef]]:
+        """Each number q with a condition under which it is x a / c, rounded half away from zero:
+        |q| is the nearest to |x a| / |c|, and of two the greater; q is negative if an odd number
+        of the three are. By UNIQUE there is one such q. `c` is not 0."""
+        arithmetic = self.arithmetic
+        m, n, d = (z3.ZeroExt(64 - 32, arithmetic.magnitude(it)) for it in (x, a, c))
+        product = arithmetic.multiply(m, z3.simplify(n) if z3.is_bv_value(a) else n)
+        negative = z3.Xor(z3.Xor(x < 0, a < 0), c < 0)
+        if arithmetic.exact:
+            q = z3.UDiv(2 * U(product) + U(d), 2 * U(d))
+            return [(z3.If(negative, -q, q), z3.BoolVal(True))]
+        found = []
+        for q, divisor in arithmetic.quotients:
+            if divisor.size() == 64:
+                # A fact of quotients says that this is their product as integers.
+                multiple = U(arithmetic.multiply(q, divisor))
+                is_nearest = z3.And(
+                    divisor == d,
+                    2 * (multiple - U(product)) <= U(d),
+                    2 * (U(product) - multiple) < U(d),
+                )
+                found.append((z3.If(negative, -U(q), U(q)), is_nearest))
+        return found
+
+
+def scaled(
+    p: Products, x: BitVecRef, a: BitVecRef, c: BitVecRef, result: BitVecRef
+) -> BoolRef:
+    """"Once, half away from zero. Wraps. `x.mul_div(a, 0)` is minus the largest value if exactly
+    one of `x` and `a` is negative, and else the largest value"."""
+    largest = (1 << 31) - 1
+    of_zero = z3.If(z3.Xor(x < 0, a < 0), N(-largest), N(largest))
+    rounded = [z3.And(c != 0, it, result == wrap(32, q)) for q, it in p.quotients(x, a, c)]
+    return z3.Or(z3.And(c == 0, result == wrap(32, of_zero)), *rounded)
+
+
+def checked_scaled(
+    p: Products, x: BitVecRef, a: BitVecRef, c: BitVecRef, result: BitVecRef
+) -> BoolRef:
+    """"The divisor is zero, or the rounded result is out of range": `None`."""
+    rounded = [z3.And(c != 0, it, result == checked(32, q)) for q, it in p.quotients(x, a, c)]
+    return z3.Or(z3.And(c == 0, result == 0), *rounded)
+
+
+# ---------------------------------------------------------------- bytes and sums
+
+
+def stored(n: BitVecRef, size: int) -> list[BitVecRef]:
+    """"An integer scalar is stored big-endian, in two's complement"."""
+    return [z3.Extract(8 * i + 7, 8 * i, n) for i in reversed(range(size))]
+
+
+def big_endian(n: BitVecRef, size: int) -> BitVecRef:
+    """The stored bytes, as the wrappers return them: the first byte is the lowest."""
+    return together(stored(n, size)[::-1])
+
+
+def together(stored_bytes: Sequence[BitVecRef]) -> BitVecRef:
+    """The unsigned number that bytes store."""
+    return z3.Concat(*stored_bytes) if len(stored_bytes) > 1 else stored_bytes[0]
+
+
+class Text(NamedTuple):
+    """Bytes that a function gets, by their index."""
+
+    length: BitVecRef
+    byte: Callable[[BitVecRef], BitVecRef]
+
+    def bytes(self, start: BitVecRef | int, count: int) -> list[BitVecRef]:
+        first = z3.BitVecVal(start, 64) if isinstance(start, int) else start
+        return [self.byte(z3.simplify(first + i)) for i in range(count)]
+
+    def has(self, start: BitVecRef, count: int) -> BoolRef:
+        """Whether so many bytes are there."""
+        return U(start) + count <= U(self.length)
+
+
+class Sums:
+    """"The exact sum" of the products of terms (scalar, delta), of four bytes each. The sum of the
+    terms before an offset is 0 for the offset 0, and each next term adds its product. It is at most
+    k 2^62 and at least -k 2^62 of k terms, and so exact in 128 bits: k is less than 2^60."""
+
+    def __init__(self, products: Products, text: Text, count: BitVecRef) -> None:
+        self.products, self.text, self.count = products, text, count
+        for bits in (64, 128):
+            products.arithmetic.facts.append(self.before(z3.BitVecVal(0, 64), bits) == 0)
+        self.bound(count * 8)
+
+    def before(self, offset: BitVecRef, bits: int) -> BitVecRef:
+        """The sum of the terms before an offset, modulo 2^bits."""
+        return z3.Function(f"sum_before{bits}", z3.BitVecSort(64), z3.BitVecSort(bits))(offset)
+
+    def all(self, bits: int) -> BitVecRef:
+        """The sum of all terms, modulo 2^bits."""
+        if not self.products.arithmetic.exact:
+            return self.before(self.count * 8, bits)
+        total = (self.product(z3.BitVecVal(8 * i, 64), bits) for i in range(self.count.as_long()))
+        return z3.simplify(sum(total, z3.BitVecVal(0, bits)))
+
+    def product(self, offset: BitVecRef, bits: int) -> BitVecRef:
+        """The product of the term at an offset."""
+        words = (together(self.text.bytes(offset + i, 4)[::-1]) for i in (0, 4))
+        product = self.products.arithmetic.multiply(*(z3.SignExt(32, z3.simplify(it)) for it in words))
+        return z3.SignExt(bits - 64, product) if bits > 64 else product
+
+    def define(self, offset: BitVecRef, count: int) -> None:
+        """States the definition for so many terms, from an offset on."""
+        after = z3.simplify(offset + 8 * count)
+        for bits in (64, 128):
+            total = self.before(offset, bits)
+            for i in range(count):
+                total = total + self.product(offset + 8 * i, bits)
+            self.products.arithmetic.facts.append(self.before(after, bits) == z3.simplify(total))
+        self.bound(offset)
+        self.bound(after)
+
+    def bound(self, offset: BitVecRef) -> None:
+        total, most = self.before(offset, 128), z3.ZeroExt(64, z3.LShR(offset, 3)) << 62
+        self.products.arithmetic.facts.append(z3.And(total <= most, -most <= total))
+
+
+# ---------------------------------------------------------------- tags
+
+
+def first_fault(text: Sequence[BitVecRef], after_space: bool) -> BitVecRef:
+    """"It fails if the first byte is a space, if a byte is not from 0x20 to 0x7E, or if a byte
+    that is not a space follows a space": the answer at the first such byte, or 0. An answer has
+    its kind in the upper four bits, then the byte, then the index."""
+    answer = z3.BitVecVal(0, 64)
+    for index in reversed(range(len(text))):
+        it = text[index]
+        invalid = z3.BitVecVal(2 << 60 | index, 64) | z3.ZeroExt(56, it) << 8
+        late = z3.BitVecVal(3 << 60 | index, 64) if after_space else invalid
+        printable = z3.And(U(it) >= 0x20, U(it) <= 0x7E)
+        spaced = z3.Or([before == 0x20 for before in text[:index]])
+        unfit = z3.Or(z3.Not(printable), it == 0x20) if index == 0 else z3.Not(printable)
+        answer = z3.If(unfit, invalid, z3.If(z3.And(spaced, it != 0x20), late, answer))
+    return answer
+
+
+def validated(p: Products, *text: BitVecRef) -> BitVecRef:
+    """Of four spaces, as OpenType's tag without a name, it is the length 0 that is invalid."""
+    spaces = z3.And([it == 0x20 for it in text])
+    return z3.If(spaces, z3.BitVecVal(1 << 60, 64), first_fault(text, True))
+
+
+def checked_tag(p: Products, text: Text) -> BitVecRef:
+    """"`Tag::new_checked` takes one to four bytes, and adds spaces"."""
+    answer = z3.BitVecVal(1 << 60, 64) | text.length & (1 << 60) - 1
+    for count in range(1, 5):
+        given = text.bytes(0, count)
+        padded = z3.Concat([*given, *[z3.BitVecVal(0x20, 8)] * (4 - count)])
+        fault = first_fault(given, False)
+        here = z3.If(fault == 0, z3.ZeroExt(32, padded), fault)
+        answer = z3.If(text.length == count, here, answer)
+    return answer

@@ -1,0 +1,56 @@
+"""A path through a function, and what must not hold on it."""
+
+from __future__ import annotations
+
+from collections.abc import Callable
+from typing import TYPE_CHECKING, NamedTuple
+
+import z3
+from z3 import BoolRef
+
+from values import YES, Ended, Value
+
+if TYPE_CHECKING:
+    from memory import Object
+
+
+class State(NamedTuple):
+    """Where a path is: before an instruction of a block, which it came to from another block. It
+    has the values of names, the memory, the conditions under which it is taken, and how often it
+    came to each block."""
+
+    block: str
+    index: int
+    before: str
+    names: dict[str, Value]
+    memory: dict[str, "Object"]
+    conditions: list[BoolRef]
+    visits: dict[str, int]
+
+    def copy(self) -> State:
+        copies = dict(self.names), dict(self.memory), list(self.conditions), dict(self.visits)
+        return State(self.block, self.index, self.before, *copies)
+
+
+class Goals:
+    """Calls `refute` for each list of conditions that must exclude each other, with the reason."""
+
+    def __init__(self, refute: Callable[[str, list[BoolRef]], None]) -> None:
+        self.refute = refute
+
+    def check(self, why: str, condition: BoolRef, state: State) -> None:
+        """The condition must not hold on the path."""
+        condition = z3.simplify(condition)
+        if z3.is_true(condition):
+            self.bad(why, state)
+        if not z3.is_false(condition):
+            self.refute(f"undefined behavior: {why}", state.conditions + [condition])
+
+    def bad(self, why: str, state: State) -> None:
+        """The path must not be possible, and ends here."""
+        self.refute(f"undefined behavior: {why}", state.conditions + [YES])
+        raise Ended
+
+    def panic(self, name: str, state: State) -> None:
+        self.refute(f"panic in {name}", state.conditions + [YES])
+        raise Ended

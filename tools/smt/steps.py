@@ -1,0 +1,368 @@
+"""What each instruction of LLVM's IR computes, and when its result is poison."""
+
+from __future__ import annotations
+
+import re
+from collections.abc import Callable
+from typing import TYPE_CHECKING
+
+import z3
+from z3 import BitVecRef, BoolRef
+
+import intrinsics
+from ir import Instruction, array_of, size_of, split_commas, take_attributes, take_flags, take_type
+from memory import Cells
+from state import State
+from values import (
+    NO, Address, Number, Unsupported, Value, address_of, any_of, bit_of, choose, constant, extend,
+    fold, is_constant, is_set, number_of,
+)  # fmt: skip
+
+if TYPE_CHECKING:
+    from machine import Machine
+
+COMPARE: dict[str, Callable[[BitVecRef, BitVecRef], BoolRef]] = {
+    "eq": lambda a, b: a == b,
+    "ne": lambda a, b: a != b,
+    "slt": lambda a, b: a < b,
+    "sle": lambda a, b: a <= b,
+    "sgt": lambda a, b: a > b,
+    "sge": lambda a, b: a >= b,
+    "ult": z3.ULT,
+    "ule": z3.ULE,
+    "ugt": z3.UGT,
+    "uge": z3.UGE,
+}
+
+
+def step(machine: Machine, it: Instruction, state: State) -> Value | None:
+    """Runs an instruction that has one way to go on, and returns its result if it has one."""
+    if it.op not in STEPS:
+        raise Unsupported(f"{it.op} {it.text}")
+    return STEPS[it.op](machine, it, state)
+
+
+def operand(machine: Machine, text: str, state: State) -> Value:
+    return machine.value(*take_type(text), state)
+
+
+def pair(machine: Machine, text: str, state: State) -> tuple[Value, Value]:
+    type_, rest = take_type(text)
+    a, b = split_commas(rest)
+    return machine.value(type_, a, state), machine.value(type_, b, state)
+
+
+# ---------------------------------------------------------------- numbers
+
+
+def overflows(op: str, a: BitVecRef, b: BitVecRef, signed: bool) -> BoolRef:
+    """`nsw`, `nuw`: the sum or difference of the integers, in one bit more, is not the result."""
+    x, y = (extend(signed, a.size() + 1, it) for it in (a, b))
+    result, wide = (a + b, x + y) if op == "add" else (a - b, x - y)
+    return extend(signed, a.size() + 1, result) != wide
+
+
+def add(machine: Machine, it: Instruction, state: State) -> Value:
+    flags, text = take_flags(it.text, "nsw nuw")
+    a, b = map(number_of, pair(machine, text, state))
+    bits, known = a.bits + b.bits if it.op == "add" else a.bits - b.bits, machine.arithmetic
+    greatest = known.greatest(a.bits) + known.greatest(b.bits)
+    if it.op == "add" and greatest < 1 << bits.size():
+        known.keep(bits, greatest)
+    wrong = [overflows(it.op, a.bits, b.bits, flag == "nsw") for flag in sorted(flags)]
+    return Number(fold(bits), any_of(a.poison, b.poison, *map(z3.simplify, wrong)))
+
+
+def multiply(machine: Machine, it: Instruction, state: State) -> Value:
+    """`nsw`, `nuw`: the product of the integers is not in the width."""
+    flags, text = take_flags(it.text, "nsw nuw")
+    a, b = map(number_of, pair(machine, text, state))
+    known = machine.arithmetic
+    wrong = [known.multiply_overflows(a.bits, b.bits, flag == "nsw") for flag in sorted(flags)]
+    return Number(fold(known.multiply(a.bits, b.bits)), any_of(a.poison, b.poison, *wrong))
+
+
+def divide(machine: Machine, it: Instruction, state: State) -> Value:
+    """A divisor of zero or poison, and the least number by -1, are undefined behavior. `exact`:
+    there is a remainder."""
+    flags, text = take_flags(it.text, "exact")
+    a, b = map(number_of, pair(machine, text, state))
+    known, (x, y) = machine.arithmetic, (a.bits, b.bits)
+    machine.goals.check("a divisor is poison", b.poison, state)
+    machine.goals.check("division by zero", y == 0, state)
+    rest = (z3.URem if it.op[0] == "u" else z3.SRem)(x, y)
+    if it.op[0] == "s":
+        least = z3.And(x == 1 << x.size() - 1, y == -1)
+        machine.goals.check("overflow of a division", z3.Or(least, a.poison), state)
+    quotient = {
+        "udiv": known.divide,
+        "urem": lambda x, y: known.narrowed(z3.URem, x, y),
+        "sdiv": lambda x, y: x / y,
+        "srem": z3.SRem,
+    }[it.op]
+    inexact = rest != 0 if flags else NO
+    return Number(fold(quotient(x, y)), any_of(a.poison, b.poison, z3.simplify(inexact)))
+
+
+def shift(machine: Machine, it: Instruction, state: State) -> Value:
+    """A shift by the width or more is poison. `nsw`, `nuw`, `exact`: shifting the result back
+    does not give the operand."""
+    flags, text = take_flags(it.text, "nsw nuw exact")
+    a, b = map(number_of, pair(machine, text, state))
+    x, by, known = a.bits, b.bits, machine.arithmetic
+    bits = x << by if it.op == "shl" else z3.LShR(x, by) if it.op == "lshr" else x >> by
+    back = {"nsw": bits >> by, "nuw": z3.LShR(bits, by), "exact": bits << by}
+    wrong = [z3.UGE(by, x.size()), *(back[flag] != x for flag in sorted(flags))]
+    if is_constant(by) and not is_constant(x):
+        number, greatest = by.as_long(), known.greatest(x)
+        if it.op == "shl" and greatest << number < 1 << x.size():
+            known.keep(bits, greatest << number)
+        if it.op == "lshr":
+            known.keep(bits, greatest >> number)
+    return Number(fold(bits), any_of(a.poison, b.poison, *map(z3.simplify, wrong)))
+
+
+def logic(machine: Machine, it: Instruction, state: State) -> Value:
+    """`disjoint`: both numbers have a bit."""
+    flags, text = take_flags(it.text, "disjoint")
+    a, b = map(number_of, pair(machine, text, state))
+    x, y = a.bits, b.bits
+    bits = x & y if it.op == "and" else x | y if it.op == "or" else x ^ y
+    if it.op == "and":
+        known = machine.arithmetic
+        known.keep(bits, min(known.greatest(x), known.greatest(y)))
+    both = z3.simplify(x & y != 0) if flags else NO
+    return Number(fold(bits), any_of(a.poison, b.poison, both))
+
+
+def convert(machine: Machine, it: Instruction, state: State) -> Value:
+    """`nneg`: the number is negative. `nsw`, `nuw`: what is cut off is not the sign, or not 0."""
+    flags, text = take_flags(it.text, "nsw nuw nneg")
+    source, target = text.rsplit(" to i", 1)
+    a, width = number_of(operand(machine, source, state)), int(target)
+    if it.op != "trunc":
+        negative = z3.simplify(a.bits < 0) if flags else NO
+        return Number(fold(extend(it.op == "sext", width, a.bits)), any_of(a.poison, negative))
+    low = z3.Extract(width - 1, 0, a.bits)
+    wrong = [extend(flag == "nsw", a.bits.size(), low) != a.bits for flag in sorted(flags)]
+    return Number(fold(low), any_of(a.poison, *map(z3.simplify, wrong)))
+
+
+def compare(machine: Machine, it: Instruction, state: State) -> Value:
+    """`samesign`: one number is negative, and the other is not."""
+    flags, text = take_flags(it.text, "samesign")
+    kind, text = text.split(" ", 1)
+    a, b = pair(machine, text, state)
+    if isinstance(a, Address) and isinstance(b, Address):
+        return compare_addresses(machine, kind, a, b, state)
+    x, y = number_of(a), number_of(b)
+    differ = z3.simplify((x.bits < 0) != (y.bits < 0)) if flags else NO
+    return Number(bit_of(COMPARE[kind](x.bits, y.bits)), any_of(x.poison, y.poison, differ))
+
+
+def select(machine: Machine, it: Instruction, state: State) -> Value:
+    """Is poison if the condition is, or if the chosen value is."""
+    of, yes, no = (operand(machine, text, state) for text in split_commas(it.text))
+    choice = number_of(of)
+    condition = is_set(choice.bits)
+    if z3.is_true(condition) or z3.is_false(condition):
+        chosen = yes if z3.is_true(condition) else no
+        if isinstance(chosen, list):
+            raise Unsupported("select of a structure")
+        return chosen._replace(poison=any_of(choice.poison, chosen.poison))
+    if isinstance(yes, Address) and isinstance(no, Address) and yes.object == no.object:
+        poison = any_of(choice.poison, choose(condition, yes.poison, no.poison))
+        return Address(yes.object, z3.If(condition, yes.offset, no.offset), poison)
+    a, b, known = number_of(yes), number_of(no), machine.arithmetic
+    bits = z3.If(condition, a.bits, b.bits)
+    known.keep(bits, max(known.greatest(a.bits), known.greatest(b.bits)))
+    return Number(bits, any_of(choice.poison, choose(condition, a.poison, b.poison)))
+
+
+def freeze(machine: Machine, it: Instruction, state: State) -> Value:
+    """Turns poison into any one number."""
+    value = number_of(operand(machine, it.text, state))
+    if z3.is_false(value.poison):
+        return value
+    return Number(z3.If(value.poison, machine.unknown(value.bits.size()), value.bits))
+
+
+def extract(machine: Machine, it: Instruction, state: State) -> Value:
+    structure, index = split_commas(it.text)
+    parts = operand(machine, structure, state)
+    if not isinstance(parts, list):
+        raise Unsupported(it.text)
+    return parts[int(index)]
+
+
+def insert(machine: Machine, it: Instruction, state: State) -> Value:
+    structure, new, index = split_commas(it.text)
+    parts = operand(machine, structure, state)
+    if not isinstance(parts, list):
+        raise Unsupported(it.text)
+    at = int(index)
+    return [*parts[:at], operand(machine, new, state), *parts[at + 1 :]]
+
+
+# ---------------------------------------------------------------- addresses
+
+
+def is_null(address: Address) -> BoolRef:
+    """No object is at address zero, and none ends there."""
+    return z3.BoolVal(False) if address.object is not None else address.offset == 0
+
+
+def compare_addresses(
+    machine: Machine, kind: str, a: Address, b: Address, state: State
+) -> Number:
+    """Compares addresses of one object by their offsets, or an address with null."""
+    poison = any_of(a.poison, b.poison)
+    if a.object != b.object:
+        if kind not in ("eq", "ne") or None not in (a.object, b.object):
+            raise Unsupported("a comparison of two objects")
+        if not all(is_constant(it.offset) and not it.offset.as_long() for it in (a, b)):
+            raise Unsupported("a comparison of an address with a number")
+        return Number(constant(int(kind == "ne"), 1), poison)
+    for it in (a, b):
+        if it.object is not None and kind not in ("eq", "ne"):
+            length = machine.memory.object(it, state).length
+            machine.goals.check("an address out of bounds", z3.UGT(it.offset, length), state)
+    return Number(bit_of(COMPARE[kind](a.offset, b.offset)), poison)
+
+
+def address_as_number(machine: Machine, it: Instruction, state: State) -> Value:
+    """Objects are somewhere: aligned, not at zero, and not across the end of memory."""
+    source, target = it.text.rsplit(" to ", 1)
+    address = address_of(operand(machine, source, state))
+    if target != "i64":
+        raise Unsupported(it.text)
+    if address.object is None:
+        return Number(address.offset, address.poison)
+    place, base = machine.memory.object(address, state), z3.BitVec(f"at_{address.object}", 64)
+    facts = [base != 0, z3.ULE(base, -place.length - 1), z3.URem(base, place.align) == 0]
+    machine.arithmetic.facts += facts
+    return Number(base + address.offset, address.poison)
+
+
+def get_element(machine: Machine, it: Instruction, state: State) -> Value:
+    return element(machine, it.text, state)
+
+
+def element(machine: Machine, text: str, state: State) -> Address:
+    """`inbounds`, `nusw`: the distance wraps, or the address leaves the object or its end. `nuw`:
+    the distance is negative, or the address leaves the object."""
+    flags, text = take_flags(text, "inbounds nusw nuw")
+    type_, rest = take_type(text)
+    first, *indices = split_commas(rest)
+    base = address_of(operand(machine, first, state))
+    distance, poison, wrong = constant(0), base.poison, []
+    for i, text in enumerate(indices):
+        index = number_of(operand(machine, text, state))
+        if i > 0:
+            type_ = (array_of(type_) or (0, f"({type_}"))[1]
+        size, number = size_of(type_), extend(True, 64, index.bits)
+        poison = any_of(poison, index.poison)
+        # Neither the product with the size of an element nor the sum wraps.
+        if size > 1:
+            wrong.append(z3.Or(number >= (1 << 63) // size, number < -(1 << 63) // size))
+        wrong.append(overflows("add", distance, number * size, True))
+        distance = distance + number * size
+    offset = z3.simplify(base.offset + distance)
+    if not flags:
+        return Address(base.object, offset, poison)
+    length = constant(0)
+    if base.object is not None:
+        length = machine.memory.object(base, state).length
+    wrong += [z3.UGT(it, length) for it in (base.offset, offset)]
+    if "nuw" in flags:
+        wrong.append(distance < 0)
+    return Address(base.object, offset, any_of(poison, *map(z3.simplify, wrong)))
+
+
+# ---------------------------------------------------------------- memory
+
+
+def aligned(texts: list[str]) -> int:
+    """The alignment that a load or a store claims."""
+    found = [re.fullmatch(r"align (\d+)", it) for it in texts]
+    if len(found) != 1 or not found[0]:
+        raise Unsupported(f"access {texts}")
+    return int(found[0][1])
+
+
+def load(machine: Machine, it: Instruction, state: State) -> Value:
+    type_, rest = take_type(it.text.removeprefix("volatile "))
+    place, *others = split_commas(rest)
+    address = address_of(operand(machine, place, state))
+    return machine.memory.load(type_, address, aligned(others), state)
+
+
+def store(machine: Machine, it: Instruction, state: State) -> None:
+    of, place, *others = split_commas(it.text.removeprefix("volatile "))
+    value, address = operand(machine, of, state), address_of(operand(machine, place, state))
+    machine.memory.store(take_type(of)[0], value, address, aligned(others), state)
+
+
+def allocate(machine: Machine, it: Instruction, state: State) -> Value:
+    type_, align = split_commas(it.text)
+    name = machine.name("%alloca")
+    state.memory[name] = Cells((None,) * size_of(type_), aligned([align]))
+    return Address(name, constant(0))
+
+
+def compare_memory(machine: Machine, name: str, values: list[Value], state: State) -> Number:
+    """`memcmp` is 0 if and only if all bytes are equal, and negative if and only if the first that
+    differs is less. More is not known of it."""
+    size = number_of(values[2]).bits
+    if not is_constant(size) or not size.as_long():
+        raise Unsupported(f"{name} of such a size")
+    both = [machine.memory.read(address_of(it), size.as_long(), 1, state) for it in values[:2]]
+    numbers = [number_of(it) if isinstance(it, Number) else None for it in both[0] + both[1]]
+    if None in numbers:
+        raise Unsupported(f"{name} of what was not stored")
+    known = [it for it in numbers if it]
+    bits = [it.bits for it in known] + [constant(0, 8)] * 2
+    a, b = z3.Concat(bits[: len(both[0])] + bits[-1:]), z3.Concat(bits[len(both[0]) : -1])
+    poison = any_of(*(it.poison for it in known))
+    if machine.arithmetic.exact:
+        less = z3.If(z3.ULT(a, b), constant(-1, 32), constant(1, 32))
+        return Number(z3.simplify(z3.If(a == b, constant(0, 32), less)), poison)
+    answer = machine.unknown(32)
+    machine.arithmetic.facts.append((answer == 0) == (a == b))
+    if name == "@memcmp":
+        machine.arithmetic.facts.append((answer < 0) == z3.ULT(a, b))
+    return Number(answer, poison)
+
+
+def intrinsic(machine: Machine, it: Instruction, state: State) -> Value | None:
+    returns, text = take_attributes(it.text)
+    type_, text = take_type(text)
+    found = re.fullmatch(r"@llvm\.([\w.]+)\((.*)\)", text)
+    if not found:
+        raise Unsupported(text)
+    if found[1].startswith(intrinsics.IGNORED):
+        return None
+    values = [machine.argument(argument, state) for argument in split_commas(found[2])]
+    result = intrinsics.call(machine, found[1], type_, values, state)
+    return result if result is None else machine.promised(result, returns, state)
+
+
+STEPS: dict[str, Callable[[Machine, Instruction, State], Value | None]] = {
+    **dict.fromkeys(("add", "sub"), add),
+    **dict.fromkeys(("udiv", "urem", "sdiv", "srem"), divide),
+    **dict.fromkeys(("shl", "lshr", "ashr"), shift),
+    **dict.fromkeys(("and", "or", "xor"), logic),
+    **dict.fromkeys(("zext", "sext", "trunc"), convert),
+    "mul": multiply,
+    "icmp": compare,
+    "select": select,
+    "freeze": freeze,
+    "extractvalue": extract,
+    "insertvalue": insert,
+    "ptrtoint": address_as_number,
+    "getelementptr": get_element,
+    "load": load,
+    "store": store,
+    "alloca": allocate,
+    "call": intrinsic,
+}
