@@ -24,6 +24,7 @@ except ModuleNotFoundError:
     print(f"{sys.executable} has no z3: Debian's package python3-z3 has it, for /usr/bin/python3")
     sys.exit(1)
 
+import faults
 from arithmetic import lemmas
 from build import build
 from cases import CASES, Case
@@ -52,7 +53,9 @@ def prove(proof: Proof, turns: int) -> str:
     return ""
 
 
-def run(tree: Path, cases: list[Case], checked: bool, goals: Path | None, turns: int) -> list[Verdict]:
+def run(
+    tree: Path, cases: list[Case], checked: bool, goals: Path | None, turns: int
+) -> list[Verdict]:
     verdicts, agreed = [], 0
     with tempfile.TemporaryDirectory() as room:
         built = build(tree, Path(room), cases, checked)
@@ -63,7 +66,10 @@ def run(tree: Path, cases: list[Case], checked: bool, goals: Path | None, turns:
             verdicts.append(verdict)
             shown = verdict.fault or "proved"
             agreed += proof.agreed
-            print(f"{case.name:40} {proof.goals:3} goals {verdict.seconds:7.2f} s  {shown}", flush=True)
+            print(
+                f"{case.name:40} {proof.goals:3} goals {verdict.seconds:7.2f} s  {shown}",
+                flush=True,
+            )
     print(f"the reader agrees with the processor on {agreed} arguments")
     return verdicts
 
@@ -74,9 +80,12 @@ def main() -> int:
     parser.add_argument("--only", default="")
     parser.add_argument("--checked", action="store_true")
     parser.add_argument("--goals", type=Path)
+    parser.add_argument("--mutants", action="store_true")
     parser.add_argument("--turns", type=int, default=3)
     options = parser.parse_args()
     sys.setrecursionlimit(20000)
+    if options.mutants:
+        return int(faults.report(options.tree, options.only) > 0)
     for name, lemma in lemmas():
         solver = z3.Solver()
         solver.add(z3.Not(lemma))

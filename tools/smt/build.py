@@ -76,7 +76,9 @@ def build(tree: Path, room: Path, cases: list[Case], checked: bool) -> Built:
     shutil.copytree(tree / "src", room / "src")
     with (room / "src/lib.rs").open("a") as lib:
         lib.write(HEAD + "".join(map(wrapper, cases)) + "}\n")
-    checks = [f"-C{it}={'on' if checked else 'off'}" for it in ("overflow-checks", "debug-assertions")]
+    checks = [
+        f"-C{it}={'on' if checked else 'off'}" for it in ("overflow-checks", "debug-assertions")
+    ]
     command = ["rustc", *OPTIONS, *checks, "--out-dir", str(room), str(room / "src/lib.rs")]
     done = subprocess.run(command, capture_output=True, text=True)
     if done.returncode:

@@ -169,6 +169,7 @@ widening("F2Dot30::from_f2dot14", 16, f"F2Dot30::from_f2dot14({Q})", 16, 32)
 widening("F2Dot30: From<F2Dot14>", 16, f"F2Dot30::from({Q})", 16, 32)
 widening("F2Dot14::to_fixed", 16, f"{Q}.to_fixed()", 2, 32)
 widening("Fixed: From<F2Dot14>", 16, f"Fixed::from({Q})", 2, 32)
+widening("Fixed: From<FWord>", 16, "Fixed::from(FWord::new(x))", 16, 32)
 widening("Fixed::to_f48dot16", 32, f"{X}.to_f48dot16()", 0, 64)
 widening("FWord::to_fixed", 16, "FWord::new(x).to_fixed()", 16, 32)
 case("UfWord::to_fixed", "x: u16", "i32", "UfWord::new(x).to_fixed().to_bits()",
@@ -205,6 +206,10 @@ TWO = ("{{ let mut sum = DeltaSum::new(); sum.add(Fixed::from_bits(x), y);"
 case("DeltaSum::add", "x: i32, y: i32, s: i32, t: i32", "?i64",
      TWO.format("checked_finish().map(F48Dot16::to_bits)"), lambda p, *v: checked(64, p.sum(*v)))
 case("DeltaSum::finish", "x: i32, y: i32, s: i32, t: i32", "i64", TWO.format("finish().to_bits()"),
+     lambda p, *v: wrap(64, p.sum(*v)))
+case("DeltaSum +=", "x: i32, y: i32, s: i32, t: i32", "i64",
+     "{ let mut a = DeltaSum::new(); a.add(Fixed::from_bits(x), y); let mut b = DeltaSum::new();"
+     " b.add(Fixed::from_bits(s), t); a += b; a.finish().to_bits() }",
      lambda p, *v: wrap(64, p.sum(*v)))
 case("delta_sum", "terms: terms", "i64", "delta_sum(terms).to_bits()",
      lambda p, terms: terms.all(64))
@@ -356,6 +361,12 @@ def bytes_of(kind: Kind) -> None:
     case(f"{T}::read_at", "text: bytes, at: u64", f"?{result}",
          f"<{value} as Scalar>::read_at(text, at as usize).map(|it| it{get})",
          lambda p, text, at: some(text.has(at, size), extended(text.bytes(at, size))))
+    if T in "FWord UfWord GlyphId16 GlyphId24 NameId LongDateTime".split():
+        case(f"{T}::to_be_bytes", f"x: {i}", f"[{size}]", f"{make}.to_be_bytes()",
+             lambda p, x: big_endian(clip(x), size))
+    if T in ("Uint24", "Int24", "GlyphId24", "Tag"):
+        case(f"{T}::from_be_bytes", given, result, f"{T}::from_be_bytes({array}){get}",
+             lambda p, *v: extended(v))
     relation(f"{T}::write_at", f"text: room, x: {i}, at: u64", "bool",
              f"{make}.write_at(text, at as usize).is_some()",
              lambda p, text, x, at, result, after: written(text, clip(x), at, size, result, after))
@@ -418,6 +429,17 @@ case("GlyphId24: TryFrom<GlyphId>", "x: u32", "?u32",
 case("TryFromGlyphIdError::value", "x: u32", "u32",
      f"match {NARROW} {{ Ok(_) => 0, Err(e) => e.value() }}",
      lambda p, x: wrap(32, z3.If(fits_unsigned(16, U(x)), N(0), U(x))))
+ordered = lambda x, y: z3.If(U(x) < U(y), z3.BitVecVal(-1, 8), z3.If(
+    U(x) == U(y), z3.BitVecVal(0, 8), z3.BitVecVal(1, 8)))
+PAIR = "GlyphId16::new(x)", "GlyphId::new(y)"
+case("GlyphId16::eq_gid", "x: u16, y: u32", "bool", "{}.eq_gid(&{})".format(*PAIR),
+     lambda p, x, y: B(U(x) == U(y)))
+case("GlyphId16::cmp_gid", "x: u16, y: u32", "i8", "{}.cmp_gid(&{}) as i8".format(*PAIR),
+     lambda p, x, y: ordered(x, y))
+case("GlyphId::eq_gid16", "x: u16, y: u32", "bool", "{1}.eq_gid16(&{0})".format(*PAIR),
+     lambda p, x, y: B(U(x) == U(y)))
+case("GlyphId::cmp_gid16", "x: u16, y: u32", "i8", "{1}.cmp_gid16(&{0}) as i8".format(*PAIR),
+     lambda p, x, y: ordered(y, x))
 case("GlyphId16 == GlyphId", "x: u16, y: u32", "bool", "GlyphId16::new(x) == GlyphId::new(y)",
      lambda p, x, y: B(U(x) == U(y)))
 case("GlyphId16 < GlyphId", "x: u16, y: u32", "bool", "GlyphId16::new(x) < GlyphId::new(y)",
@@ -434,6 +456,8 @@ for T in ("Offset16", "Offset32", "Offset24"):
     w, value = (32, "Offset24::new(Uint24::new(x))") if T == "Offset24" else (
         int(T[6:]), f"{T}::new(x)")
     case(f"{T}::is_null", f"x: u{w}", "bool", f"{value}.is_null()", lambda p, x: B(U(x) == 0))
+    case(f"{T}::value_u32", f"x: u{w}", "u32", f"OffsetValue::value_u32(&{value})",
+         lambda p, x, T=T: wrap(32, low(U(x), LARGEST) if T == "Offset24" else U(x)))
     case(f"{T}::eq_u32", f"x: u{w}, y: u32", "bool", f"{value}.eq_u32(&y)",
          lambda p, x, y, T=T: B((low(U(x), LARGEST) if T == "Offset24" else U(x)) == U(y)))
 
@@ -489,6 +513,16 @@ case("Tag::from_u32", "x: u32", "[4]", "Tag::from_u32(x).to_be_bytes()",
      lambda p, x: big_endian(x, 4))
 case("Tag < Tag", "x: u32, y: u32", "bool", "Tag::from_u32(x) < Tag::from_u32(y)",
      lambda p, x, y: B(U(x) < U(y)))
+case("Tag::cmp", "x: u32, y: u32", "i8", "Tag::from_u32(x).cmp(&Tag::from_u32(y)) as i8",
+     lambda p, x, y: ordered(x, y))
+case("Tag::partial_cmp", "x: u32, y: u32", "i8",
+     "Tag::from_u32(x).partial_cmp(&Tag::from_u32(y)).unwrap() as i8", lambda p, x, y: ordered(x, y))
+case("Tag::into_bytes", "x: u32", "[4]", "Tag::from_u32(x).into_bytes()",
+     lambda p, x: big_endian(x, 4))
+case("Tag::as_bytes", "x: u32", "[4]", "*Tag::from_u32(x).as_bytes()",
+     lambda p, x: big_endian(x, 4))
+case("Tag::eq_bytes", "x: u32, y: u32", "bool",
+     "Tag::from_u32(x).eq_bytes(&y.to_be_bytes())", lambda p, x, y: B(U(x) == U(y)))
 # Of `Ok`, the bytes. Of an error, its kind, the byte, and the index or the length.
 ANSWER = """match {} {{
     Ok(tag) => tag as u64,

@@ -58,7 +58,9 @@ def inputs(case: Case, products: Products, given: Given | None = None) -> Inputs
         if value is None:
             made.variables[name] = bits
         else:
-            bits = constant(int.from_bytes(value, "little") if isinstance(value, bytes) else value, bits.size())
+            bits = constant(
+                int.from_bytes(value, "little") if isinstance(value, bytes) else value, bits.size()
+            )
         made.arguments.append(Number(bits))
         made.of_rule.append(bits)
     return made
@@ -126,7 +128,9 @@ def result_width(case: Case) -> int:
     type_ = case.returns
     if type_[0] == "?":
         return 2 * int(type_[2:])
-    return {3: 32}.get(int(type_[1:-1]), 8 * int(type_[1:-1])) if type_[0] == "[" else width_of(type_)
+    return (
+        {3: 32}.get(int(type_[1:-1]), 8 * int(type_[1:-1])) if type_[0] == "[" else width_of(type_)
+    )
 
 
 def shown_result(case: Case, result: int) -> str:
@@ -147,7 +151,10 @@ class Numbers:
         self.row = (ctypes.c_uint64 * (2 * count)).from_address(self.address)
 
     def put(self, index: int, number: int) -> None:
-        self.row[2 * index], self.row[2 * index + 1] = number & (1 << 64) - 1, number >> 64 & (1 << 64) - 1
+        self.row[2 * index], self.row[2 * index + 1] = (
+            number & (1 << 64) - 1,
+            number >> 64 & (1 << 64) - 1,
+        )
 
 
 def run_library(library: ctypes.CDLL, case: Case, given: Given) -> tuple[int, dict[str, bytes]]:

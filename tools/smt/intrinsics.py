@@ -11,18 +11,21 @@ from z3 import BitVecRef, BoolRef
 import steps
 from ir import width_of
 from state import State
+
 from values import (
     NO, Number, Unsupported, Value, address_of, any_of, bit_of, constant, extend, fold, is_constant,
     number_of,
 )  # fmt: skip
 
 if TYPE_CHECKING:
-    from machine import Machine
+    from execution import Machine
 
 IGNORED = ("lifetime", "experimental.noalias", "dbg", "donothing")
 
 
-def call(machine: Machine, name: str, type_: str, values: list[Value], state: State) -> Value | None:
+def call(
+    machine: Machine, name: str, type_: str, values: list[Value], state: State
+) -> Value | None:
     if name.startswith("assume"):
         claim = number_of(values[0])
         wrong = z3.Or(claim.poison, claim.bits == 0)

@@ -99,8 +99,7 @@ class Loops:
                 parts.append(it.bits == self.expected(head, name, it, address.offset))
             if not isinstance(it, list):
                 parts.append(z3.Not(it.poison))
-        for part in parts:
-            self.goals.check("the invariant of a loop is false", z3.Not(part), state)
+        self.goals.check("the invariant of a loop is false", z3.Not(z3.And(parts)), state)
 
     def invariant(self, head: Head, offset: BitVecRef) -> list[BoolRef]:
         began, size = address_of(head.entered[head.address]).offset, head.terms * SIZE
@@ -110,5 +109,5 @@ class Loops:
             z3.ULE(offset, end),
             z3.UGE(end - offset, size),
             offset & SIZE - 1 == 0,
-            z3.URem(offset - began, size) == 0,
+            offset - began & size - 1 == 0,
         ]

@@ -11,10 +11,12 @@ from z3 import BitVecRef
 
 from ir import Module, array_of, size_of, split_commas, stored_size, take_type, width_of
 from state import Goals, State
+
 from values import (
     NO, YES, Address, Ended, Number, Unsupported, Value,
     address_of, any_of, choose, constant, fold, is_constant, number_of,
 )  # fmt: skip
+
 
 class Part(NamedTuple):
     """One of the eight bytes of a stored address."""
@@ -99,13 +101,12 @@ class Memory:
     def places(self, address: Address, size: int, align: int, state: State) -> list[int]:
         """Makes goals of an access of so many bytes, which is within an object and aligned.
         Returns the offsets at which it may be, of an object of a known size."""
-        self.goals.check("an address is poison", address.poison, state)
         it, offset = self.object(address, state), address.offset
-        outside = z3.Or(z3.ULT(it.length, size), z3.UGT(offset, it.length - size))
-        self.goals.check("an address is out of bounds", outside, state)
         if align > it.align:
             self.goals.bad("an address may not be aligned", state)
-        self.goals.check("an address is not aligned", z3.URem(offset, align) != 0, state)
+        outside = z3.Or(z3.ULT(it.length, size), z3.UGT(offset, it.length - size))
+        wrong = z3.Or(address.poison, outside, offset & align - 1 != 0)
+        self.goals.check("an address is poison, out of bounds or not aligned", wrong, state)
         if is_constant(offset):
             return [int(offset.as_long())]
         if isinstance(it, Slice):

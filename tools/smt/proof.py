@@ -14,19 +14,20 @@ from z3 import BoolRef
 
 from arithmetic import Arithmetic
 from cases import Case
+
 from inputs import (
     Given, Inputs, byte_of, chosen, inputs, of_model, run_library, shown, shown_result,
 )  # fmt: skip
 from ir import Module
 from loops import Loops
-from machine import End, Machine
+from execution import End, Machine
 from memory import Slice
 from rules import Products, Sums, Text, use_width
 from state import Goals
 from values import Unsupported, constant, is_constant, number_of
 
-# How long the solver may think about one goal, in milliseconds.
-TIME = 120_000
+# How long the solver may think about one goal, in seconds.
+TIME = 300
 # How long arguments are looked for that show a fault, in seconds.
 SEARCH = 10
 # The most elements of a slice in an argument that is shown.
@@ -67,12 +68,17 @@ class Proof:
             self.refute("undefined behavior: the result is poison", end.conditions + [value.poison])
             right = self.right(self.products, self.given, value.bits, end)
             self.refute("wrong result", end.conditions + [z3.Not(right)])
-            self.is_met = self.is_met or self.solver(z3.And(end.conditions)).check() == z3.sat
+            self.is_met = (
+                self.is_met
+                or self.solver(z3.And(end.conditions), self.arithmetic.facts).check() == z3.sat
+            )
         if not self.is_met:
             raise Unknown("no argument is known for which it returns")
         self.check_facts()
 
-    def right(self, products: Products, given: Inputs, result: Any, end: End | None = None) -> BoolRef:
+    def right(
+        self, products: Products, given: Inputs, result: Any, end: End | None = None
+    ) -> BoolRef:
         """Returns the rule's condition of a result and of what the function leaves in a slice."""
         case, of_rule = self.case, list(given.of_rule)
         if not case.is_relation:
@@ -87,10 +93,10 @@ class Proof:
             of_rule.append(result)
         return case.rule(products, *of_rule)
 
-    def solver(self, goal: BoolRef) -> Any:
+    def solver(self, goal: BoolRef, facts: list[BoolRef], seconds: int = TIME) -> Any:
         solver = z3.SolverFor("QF_UFBV")
-        solver.set("timeout", TIME)
-        solver.add(goal, *self.arithmetic.facts)
+        solver.set("timeout", 1000 * seconds)
+        solver.add(goal, *facts)
         return solver
 
     def refute(self, why: str, conditions: list[BoolRef]) -> None:
@@ -100,7 +106,10 @@ class Proof:
         if z3.is_false(goal):
             return
         self.asked += 1
-        solver = self.solver(goal)
+        # Most goals need no fact.
+        if self.arithmetic.facts and self.solver(goal, [], 5).check() == z3.unsat:
+            return
+        solver = self.solver(goal, self.arithmetic.facts)
         if self.folder:
             name = re.sub(r"\W+", "_", self.case.name) + f"_{self.goals}.smt2"
             (self.folder / name).write_text("(set-logic QF_UFBV)\n" + solver.to_smt2())
@@ -175,7 +184,11 @@ class Proof:
         chance = random.Random(self.case.name)
         for _ in range(3 if self.arithmetic.nodes else 0):
             given = chosen(self.case, chance)
-            values = [(it, constant(given[name], it.size())) for name, it in self.given.variables.items() if name in given]
+            values = [
+                (it, constant(given[name], it.size()))
+                for name, it in self.given.variables.items()
+                if name in given
+            ]
             fact = self.arithmetic.contradicted(values)
             if fact is not None:
                 raise Unknown(f"a fact is false at {shown(self.case, given)}: {fact}")

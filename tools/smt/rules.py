@@ -54,7 +54,7 @@ def fits_unsigned(bits: int, n: BitVecRef) -> BoolRef:
 
 
 def wrap(bits: int, n: BitVecRef, width: int = 0) -> BitVecRef:
-    """"Wraps" means that the result is reduced to `bits` in two's complement. `width` is of the
+    """ "Wraps" means that the result is reduced to `bits` in two's complement. `width` is of the
     type that holds it."""
     return z3.SignExt(max(width - bits, 0), z3.Extract(bits - 1, 0, n))
 
@@ -77,7 +77,7 @@ def some(fit: BoolRef, value: BitVecRef) -> BitVecRef:
 
 
 def checked(bits: int, n: BitVecRef) -> BitVecRef:
-    """"`checked_*`: `None` if the result is out of range"."""
+    """ "`checked_*`: `None` if the result is out of range"."""
     return some(fits(bits, n), wrap(bits, n))
 
 
@@ -89,7 +89,7 @@ def absolute(n: BitVecRef) -> BitVecRef:
 
 
 def whole(n: BitVecRef, k: int) -> BitVecRef:
-    """"`floor` is the greatest integer that is not above the value", in units of 2^-k."""
+    """ "`floor` is the greatest integer that is not above the value", in units of 2^-k."""
     return (n >> k) * (1 << k)
 
 
@@ -149,10 +149,8 @@ class Products:
         return found
 
 
-def scaled(
-    p: Products, x: BitVecRef, a: BitVecRef, c: BitVecRef, result: BitVecRef
-) -> BoolRef:
-    """"Once, half away from zero. Wraps. `x.mul_div(a, 0)` is minus the largest value if exactly
+def scaled(p: Products, x: BitVecRef, a: BitVecRef, c: BitVecRef, result: BitVecRef) -> BoolRef:
+    """ "Once, half away from zero. Wraps. `x.mul_div(a, 0)` is minus the largest value if exactly
     one of `x` and `a` is negative, and else the largest value"."""
     largest = (1 << 31) - 1
     of_zero = z3.If(z3.Xor(x < 0, a < 0), N(-largest), N(largest))
@@ -163,7 +161,7 @@ def scaled(
 def checked_scaled(
     p: Products, x: BitVecRef, a: BitVecRef, c: BitVecRef, result: BitVecRef
 ) -> BoolRef:
-    """"The divisor is zero, or the rounded result is out of range": `None`."""
+    """ "The divisor is zero, or the rounded result is out of range": `None`."""
     rounded = [z3.And(c != 0, it, result == checked(32, q)) for q, it in p.quotients(x, a, c)]
     return z3.Or(z3.And(c == 0, result == 0), *rounded)
 
@@ -172,7 +170,7 @@ def checked_scaled(
 
 
 def stored(n: BitVecRef, size: int) -> list[BitVecRef]:
-    """"An integer scalar is stored big-endian, in two's complement"."""
+    """ "An integer scalar is stored big-endian, in two's complement"."""
     return [z3.Extract(8 * i + 7, 8 * i, n) for i in reversed(range(size))]
 
 
@@ -202,7 +200,7 @@ class Text(NamedTuple):
 
 
 class Sums:
-    """"The exact sum" of the products of terms (scalar, delta), of four bytes each. The sum of the
+    """ "The exact sum" of the products of terms (scalar, delta), of four bytes each. The sum of the
     terms before an offset is 0 for the offset 0, and each next term adds its product. It is at most
     k 2^62 and at least -k 2^62 of k terms, and so exact in 128 bits: k is less than 2^60."""
 
@@ -226,7 +224,9 @@ class Sums:
     def product(self, offset: BitVecRef, bits: int) -> BitVecRef:
         """The product of the term at an offset."""
         words = (together(self.text.bytes(offset + i, 4)[::-1]) for i in (0, 4))
-        product = self.products.arithmetic.multiply(*(z3.SignExt(32, z3.simplify(it)) for it in words))
+        product = self.products.arithmetic.multiply(
+            *(z3.SignExt(32, z3.simplify(it)) for it in words)
+        )
         return z3.SignExt(bits - 64, product) if bits > 64 else product
 
     def define(self, offset: BitVecRef, count: int) -> None:
@@ -249,7 +249,7 @@ class Sums:
 
 
 def first_fault(text: Sequence[BitVecRef], after_space: bool) -> BitVecRef:
-    """"It fails if the first byte is a space, if a byte is not from 0x20 to 0x7E, or if a byte
+    """ "It fails if the first byte is a space, if a byte is not from 0x20 to 0x7E, or if a byte
     that is not a space follows a space": the answer at the first such byte, or 0. An answer has
     its kind in the upper four bits, then the byte, then the index."""
     answer = z3.BitVecVal(0, 64)
@@ -271,7 +271,7 @@ def validated(p: Products, *text: BitVecRef) -> BitVecRef:
 
 
 def checked_tag(p: Products, text: Text) -> BitVecRef:
-    """"`Tag::new_checked` takes one to four bytes, and adds spaces"."""
+    """ "`Tag::new_checked` takes one to four bytes, and adds spaces"."""
     answer = z3.BitVecVal(1 << 60, 64) | text.length & (1 << 60) - 1
     for count in range(1, 5):
         given = text.bytes(0, count)

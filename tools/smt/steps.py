@@ -13,13 +13,14 @@ import intrinsics
 from ir import Instruction, array_of, size_of, split_commas, take_attributes, take_flags, take_type
 from memory import Cells
 from state import State
+
 from values import (
     NO, Address, Number, Unsupported, Value, address_of, any_of, bit_of, choose, constant, extend,
     fold, is_constant, is_set, number_of,
 )  # fmt: skip
 
 if TYPE_CHECKING:
-    from machine import Machine
+    from execution import Machine
 
 COMPARE: dict[str, Callable[[BitVecRef, BitVecRef], BoolRef]] = {
     "eq": lambda a, b: a == b,
@@ -212,9 +213,7 @@ def is_null(address: Address) -> BoolRef:
     return z3.BoolVal(False) if address.object is not None else address.offset == 0
 
 
-def compare_addresses(
-    machine: Machine, kind: str, a: Address, b: Address, state: State
-) -> Number:
+def compare_addresses(machine: Machine, kind: str, a: Address, b: Address, state: State) -> Number:
     """Compares addresses of one object by their offsets, or an address with null."""
     poison = any_of(a.poison, b.poison)
     if a.object != b.object:

@@ -15,10 +15,21 @@ from z3 import BitVecRef, BoolRef
 
 import steps
 from arithmetic import Arithmetic
-from ir import LABEL, NAME, Attributes, Function, Instruction, Module, split_commas, take_attributes, take_type
+from ir import (
+    LABEL,
+    NAME,
+    Attributes,
+    Function,
+    Instruction,
+    Module,
+    split_commas,
+    take_attributes,
+    take_type,
+)
 from loops import Loops
 from memory import Memory, Object, globals_of
 from state import Goals, State
+
 from values import (
     NO, YES, Address, Ended, Number, Unsupported, Value, any_of, constant, is_set, number_of,
 )  # fmt: skip
@@ -88,7 +99,9 @@ class Machine:
             if it.op == "ret":
                 if it.text == "void":
                     raise Unsupported("a function without a result")
-                value = self.promised(self.value(*take_type(it.text), state), function.returns, state)
+                value = self.promised(
+                    self.value(*take_type(it.text), state), function.returns, state
+                )
                 yield End(value, state.memory, state.conditions)
             elif it.op == "unreachable":
                 self.goals.bad("`unreachable` is reached", state)
@@ -119,9 +132,7 @@ class Machine:
 
     # ------------------------------------------------------------ branches
 
-    def branch(
-        self, function: Function, it: Instruction, state: State, paths: list[State]
-    ) -> None:
+    def branch(self, function: Function, it: Instruction, state: State, paths: list[State]) -> None:
         """A branch or a switch on poison is undefined behavior."""
         labels = LABEL.findall(it.text)
         if it.op == "br" and len(labels) == 1:
@@ -175,7 +186,9 @@ class Machine:
             if found is None:
                 return
             values = found
-        paths.append(state._replace(block=target, index=0, before=state.block, names=state.names | values))
+        paths.append(
+            state._replace(block=target, index=0, before=state.block, names=state.names | values)
+        )
 
     def phi(self, it: Instruction, state: State) -> Value:
         type_, rest = take_type(it.text)
