@@ -95,8 +95,9 @@ def main() -> int:
     cases = [it for it in CASES if re.search(options.only, it.name)]
     verdicts = run(options.tree, cases, options.checked, options.goals, options.turns)
     proved = [it for it in verdicts if not it.fault]
-    seconds = time.process_time()
-    print(f"{len(proved)} of {len(cases)} functions proved, in {seconds:.0f} s")
+    build = "checked" if options.checked else "release"
+    count = f"{len(proved)} of {len(cases)} functions proved in the {build} build"
+    print(f"{count}, {time.process_time():.0f} s of processor")
     return int(len(proved) < len(cases))
 
 

@@ -265,14 +265,31 @@ coordinate("x", 0)
 coordinate("y", 1)
 for name in ENTRIES:
     product_entry(name)
-for axis, other in ("xy", "yx"):
-    two = "Point::new({0}x, {0}y)".format
-    first, second = (f"Point::new(Fixed::from_bits({a}), Fixed::from_bits({b}))" for a, b in ("xy", "st"))
-    given = "x: i32, y: i32, s: i32, t: i32"
-    case(f"Point + Point, {axis}", given, "i32", f"({first} + {second}).{axis}.to_bits()",
-         lambda p, x, y, s, t, axis=axis: wrap(32, S(x) + S(s) if axis == "x" else S(y) + S(t)))
-    case(f"Point - Point, {axis}", given, "i32", f"({first} - {second}).{axis}.to_bits()",
-         lambda p, x, y, s, t, axis=axis: wrap(32, S(x) - S(s) if axis == "x" else S(y) - S(t)))
+SPOTS = ["Point::new(Fixed::from_bits({}), Fixed::from_bits({}))".format(*it) for it in ("xy", "st")]
+BOTH = "((it.x.to_bits() as u32 as u64) << 32) | it.y.to_bits() as u32 as u64"
+
+
+def of_points(sign: str, calc: Rule) -> None:
+    """"Operations of points work on each coordinate". A quotient is right if both halves are."""
+    halves = lambda result: (z3.Extract(63, 32, result), z3.Extract(31, 0, result))
+    both = lambda p, x, y, s, t, result: z3.And(*(
+        calc(p, *it) for it in zip((x, y), (s, t), halves(result))))
+    by_one = lambda p, x, y, s, result: both(p, x, y, s, s, result)
+    for end, body in (("", "let it = {} {} {};"), ("=", "let mut it = {}; it {}= {};")):
+        rust = "{{ " + body + " {} }}"
+        relation(f"Point {sign}{end}" + " Point" * (not end), "x: i32, y: i32, s: i32, t: i32", "u64",
+                 rust.format(SPOTS[0], sign, SPOTS[1], BOTH), both)
+        if sign in "*/":
+            relation(f"Point {sign}{end} T", "x: i32, y: i32, s: i32", "u64",
+                     rust.format(SPOTS[0], sign, "Fixed::from_bits(s)", BOTH), by_one)
+
+
+of_points("+", lambda p, x, s, it: it == wrap(32, S(x) + S(s)))
+of_points("-", lambda p, x, s, it: it == wrap(32, S(x) - S(s)))
+of_points("*", lambda p, x, s, it: it == wrap(32, near(p.times(x, s), 16)))
+of_points("/", lambda p, x, s, it: scaled(p, x, z3.BitVecVal(1 << 16, 32), s, it))
+case("-Point", "x: i32, y: i32", "u64", f"{{ let it = -{SPOTS[0]}; {BOTH} }}",
+     lambda p, x, y: z3.Concat(wrap(32, -S(x)), wrap(32, -S(y))))
 
 # ---------------------------------------------------------------- integers of 24 bits
 LARGEST = 0xFF_FFFF

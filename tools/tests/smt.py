@@ -1,10 +1,12 @@
-"""The second proof leaves out no function of a number: each public function is in a row of
+"""The second proof leaves out no function by its name: each public function is in a row of
 `tools/smt/cases.py`, or outside by one of six rules. The rows are read, and nothing is proved."""
 
+import ast
 import collections
 import pathlib
 import re
 import subprocess
+import sys
 import unittest
 
 ROOT = pathlib.Path(__file__).resolve().parents[2]
@@ -17,28 +19,24 @@ FORMATS = {
 }
 SIGNS = {"Add": "+", "Sub": "-", "Mul": "*", "Div": "/"}
 
-# Why a function is in no row: the first rule whose text its head and signature have.
-RULES = [
-    ("formats, hashes or copies", r"\b(fmt::|Display|Debug|Hash|Clone)\b"),
-    (
-        "takes, returns or walks over texts or arrays of any length",
-        r"&('a )?(mut )?(\[[^;\]]*\]|str)|Shortest|FromStr|Pad\b|Predefined|ScalarArray|TableData",
-    ),
-    ("is a law, of functions that have rows", r"^\w+/laws"),
-    ("is not exported", r"NOT EXPORTED"),
-    ("calls code of the caller's type", r"\bFn|<('a, )?(const )?[A-Z]\b(?!: u32)|: pub trait"),
-    ("takes no argument", r"fn \w+\(\)"),
-]
-# How many public functions there are by these rules; PROMISES has the numbers too.
-COUNTS = {"": 0}
+# Why a function is in no row: the first rule whose pattern its file, head and signature have.
+SLICES = r"&('a )?(mut )?(\[[^;\]]*\]|str)|Shortest|FromStr|Pad\b|Predefined|ScalarArray|TableData"
+RULES = {
+    "format, hash or copy": r"\b(fmt::|Display|Debug|Hash|Clone)\b",
+    "take, return or walk over texts or arrays of any length": SLICES,
+    "are laws, of functions that have rows": r"^\w+/laws",
+    "are not exported": r"NOT EXPORTED",
+    "call code of the caller's type": r"\bFn|<('a, )?(const )?[A-Z]\b(?!: u32)|: pub trait",
+    "take no argument": r"fn \w+\(\)",
+}
+IN_A_ROW = "are in a row, and so proved"
 
 
 class Function:
     """A public function: its file, the head of its `impl` or trait, and its signature."""
 
     def __init__(self, file, outer, signature):
-        self.text = f"{file}: {outer}: {signature}"
-        self.is_free, self.name = not outer, re.search(r"\bfn (\w+)", signature)[1]
+        self.text, self.name = f"{file}: {outer}: {signature}", re.search(r"fn (\w+)", signature)[1]
         head = re.sub(r"^(pub )?(impl|trait)(<[^{]*?>(?= ))? ", "", outer).split(" where")[0]
         self.trait, _, type_ = head.split(": ")[0].rpartition(" for ")
         self.type = re.sub(r"<.*", "", type_.removeprefix("&").strip())
@@ -49,26 +47,23 @@ class Function:
         if operator == "Neg":
             return name == f"-{type_}"
         if sign := SIGNS.get(operator.removesuffix("Assign")):
-            other = "Point" if "<Point" in self.trait else "T" if "<T>" in self.trait else type_
-            end = "=" if operator.endswith("Assign") else f" {other}"
-            return name in (
-                f"{type_} {sign}{end}",
-                f"{type_} {sign}{end}".removesuffix(f" {type_}"),
-            )
+            other = " Point" if "<Point" in self.trait else " T" if "<T>" in self.trait else ""
+            expected = f"{type_} {sign}{'=' * operator.endswith('Assign')}{other}"
+            return name in (expected, f"{expected} {type_}")
         if operator in ("From", "TryFrom"):
             return name == f"{type_}: {self.trait}"
         row = f"{name} {rust}"
         return bool(re.search(rf"\b{type_}\b", row) and re.search(rf"\b{self.name}\b", row))
 
-    def why_not(self, rows):
-        """Returns the rule by which no row calls the function, or an empty text if one does: of a
-        type of several formats, a row of each."""
+    def place(self, rows):
+        """Returns whether rows call the function, of a type of several formats a row for each, or
+        the rule by which none does."""
         types = FORMATS.get(self.type, self.type).split() or [""]
         if not re.search(r"\W", self.type) and all(
             any(self.is_called(type_, *row) for row in rows) for type_ in types
         ):
-            return ""
-        return next((rule for rule, text in RULES if re.search(text, self.text)), None)
+            return IN_A_ROW
+        return next((rule for rule, it in RULES.items() if re.search(it, self.text)), None)
 
 
 def functions():
@@ -82,26 +77,29 @@ def functions():
             if line == "}" or line.startswith(("impl", "pub trait")) and line.endswith("}"):
                 outer = ""
             text = " ".join(map(str.strip, lines[number : number + 9]))
-            found = re.match(
-                r"(pub )?(const )?(unsafe )?fn (\w+)[^{;]*(?:\[[^\]]*\][^{;]*)*{", text
-            )
-            if (
-                found
-                and line.lstrip().startswith(found[0][:4])
-                and (found[1] or " for " in outer or "trait" in outer[:9])
-            ):
-                free = "" if outer or found[4] in exports else "NOT EXPORTED "
-                yield Function(path.relative_to(SOURCE), outer, free + found[0])
+            found = re.match(r"(pub )?(const )?fn (\w+)[^{;]*(?:\[[^\]]*\][^{;]*)*{", text)
+            if found and (found[1] or " for " in outer or outer.startswith("pub trait")):
+                hidden = "" if outer or found[3] in exports else "NOT EXPORTED "
+                yield Function(path.relative_to(SOURCE), outer, hidden + found[0])
+
+
+def rows():
+    """Returns the name and the Rust of each row."""
+    show = "import cases; print([(it.name.split(',')[0], it.body) for it in cases.CASES])"
+    for python in (sys.executable, "/usr/bin/python3"):
+        command = [python, "-B", "-c", show]
+        shown = subprocess.run(command, cwd=ROOT / "tools/smt", capture_output=True, text=True)
+        if shown.returncode == 0:
+            return ast.literal_eval(shown.stdout)
+    raise unittest.SkipTest("no Python has z3")
 
 
 class SecondProof(unittest.TestCase):
     def test_no_function_is_left_out(self):
-        show = "import cases; print(*(f'{it.name}@{it.body!r}' for it in cases.CASES), sep='\\n')"
-        shown = subprocess.run(
-            ["/usr/bin/python3", "-c", show],
-            cwd=ROOT / "tools/smt", check=True, capture_output=True, text=True,
-        ).stdout.splitlines()  # fmt: skip
-        rows = [(it.split(",")[0].split("@")[0], it.split("@", 1)[1]) for it in shown]
-        found = [(it.why_not(rows), it) for it in functions()]
-        self.assertEqual([it.text for rule, it in found if rule is None], [])
-        self.assertEqual(dict(collections.Counter(rule for rule, _ in found)), COUNTS)
+        known = rows()
+        places = [(it.place(known), it.text) for it in functions()]
+        self.assertEqual([text for place, text in places if place is None], [])
+        page = (ROOT / "docs/PROMISES.md").read_text().split("| Public functions | Number |")[1]
+        table = dict(re.findall(r"^\| (.*) \| (\d+) \|$", page.split("\n\n")[0], re.M))
+        counts = collections.Counter(place for place, _ in places)
+        self.assertEqual({place: str(count) for place, count in counts.items()}, table)
