@@ -8,6 +8,7 @@ of SMT-LIB, for another solver."""
 
 import argparse
 import ctypes
+import os
 import re
 import sys
 import tempfile
@@ -102,4 +103,7 @@ def main() -> int:
 
 
 if __name__ == "__main__":
-    sys.exit(main())
+    status = main()
+    sys.stdout.flush()
+    # The solver's objects are not freed one by one.
+    os._exit(status)

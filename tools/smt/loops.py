@@ -78,7 +78,9 @@ class Loops:
             if name != head.address:
                 unknown[name] = Number(self.expected(head, name, number_of(it), offset))
         state.conditions.extend(self.invariant(head, offset))
-        self.sums.define(offset, head.terms)
+        for name, it in values.items():
+            if isinstance(it, Number) and name not in head.counts:
+                self.sums.define(offset, head.terms, it.bits.size())
         return unknown
 
     def expected(self, head: Head, name: str, now: Number, offset: BitVecRef) -> BitVecRef:

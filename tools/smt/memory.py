@@ -3,6 +3,7 @@
 from __future__ import annotations
 
 import re
+from functools import cache
 from collections.abc import Callable
 from typing import NamedTuple, Union
 
@@ -56,6 +57,7 @@ def parts_of(address: Address) -> list[Cell]:
     return [Part(address, i) for i in range(8)]
 
 
+@cache
 def globals_of(module: Module) -> dict[str, Object]:
     found: dict[str, Object] = {}
     for name, (type_, text, align) in module.constants.items():

@@ -16,7 +16,8 @@ from arithmetic import Arithmetic
 from cases import Case
 
 from inputs import (
-    Given, Inputs, byte_of, chosen, inputs, of_model, run_library, shown, shown_result,
+    Given, Inputs, byte_of, chosen, inputs, of_model, result_width, run_library, shown,
+    shown_result,
 )  # fmt: skip
 from ir import Module
 from loops import Loops
@@ -160,10 +161,9 @@ class Proof:
         self.compare(products, here, result, at)
 
     def compare(self, products: Products, given: Inputs, result: int, at: str) -> None:
-        end_width = number_width(self.case)
-        solver = z3.Solver()
-        solver.add(z3.Not(self.right(products, given, constant(result, end_width))))
-        if solver.check() != z3.unsat:
+        width = result_width(self.case)
+        wrong = z3.simplify(z3.Not(self.right(products, given, constant(result, width))))
+        if not z3.is_false(wrong) and self.solver(wrong, []).check() != z3.unsat:
             raise Refused(f"the compiled Rust returns {shown_result(self.case, result)} {at}")
 
     def search(self) -> None:
@@ -192,9 +192,3 @@ class Proof:
             fact = self.arithmetic.contradicted(values)
             if fact is not None:
                 raise Unknown(f"a fact is false at {shown(self.case, given)}: {fact}")
-
-
-def number_width(case: Case) -> int:
-    from inputs import result_width
-
-    return result_width(case)

@@ -208,7 +208,6 @@ class Sums:
         self.products, self.text, self.count = products, text, count
         for bits in (64, 128):
             products.arithmetic.facts.append(self.before(z3.BitVecVal(0, 64), bits) == 0)
-        self.bound(count * 8)
 
     def before(self, offset: BitVecRef, bits: int) -> BitVecRef:
         """The sum of the terms before an offset, modulo 2^bits."""
@@ -217,7 +216,7 @@ class Sums:
     def all(self, bits: int) -> BitVecRef:
         """The sum of all terms, modulo 2^bits."""
         if not self.products.arithmetic.exact:
-            return self.before(self.count * 8, bits)
+            return self.bounded(self.count * 8, bits)
         total = (self.product(z3.BitVecVal(8 * i, 64), bits) for i in range(self.count.as_long()))
         return z3.simplify(sum(total, z3.BitVecVal(0, bits)))
 
@@ -229,20 +228,20 @@ class Sums:
         )
         return z3.SignExt(bits - 64, product) if bits > 64 else product
 
-    def define(self, offset: BitVecRef, count: int) -> None:
+    def define(self, offset: BitVecRef, count: int, bits: int) -> None:
         """States the definition for so many terms, from an offset on."""
-        after = z3.simplify(offset + 8 * count)
-        for bits in (64, 128):
-            total = self.before(offset, bits)
-            for i in range(count):
-                total = total + self.product(offset + 8 * i, bits)
-            self.products.arithmetic.facts.append(self.before(after, bits) == z3.simplify(total))
-        self.bound(offset)
-        self.bound(after)
+        after, total = z3.simplify(offset + 8 * count), self.bounded(offset, bits)
+        for i in range(count):
+            total = total + self.product(offset + 8 * i, bits)
+        self.products.arithmetic.facts.append(self.bounded(after, bits) == z3.simplify(total))
 
-    def bound(self, offset: BitVecRef) -> None:
-        total, most = self.before(offset, 128), z3.ZeroExt(64, z3.LShR(offset, 3)) << 62
-        self.products.arithmetic.facts.append(z3.And(total <= most, -most <= total))
+    def bounded(self, offset: BitVecRef, bits: int) -> BitVecRef:
+        """Returns the sum before an offset, and states its bounds."""
+        total = self.before(offset, bits)
+        if bits == 128:
+            most = z3.ZeroExt(64, z3.LShR(offset, 3)) << 62
+            self.products.arithmetic.facts.append(z3.And(total <= most, -most <= total))
+        return total
 
 
 # ---------------------------------------------------------------- tags
