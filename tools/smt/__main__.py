@@ -26,7 +26,8 @@ except ModuleNotFoundError:
     sys.exit(1)
 
 import faults
-from arithmetic import lemmas
+import arithmetic
+import rules
 from build import build
 from cases import CASES, Case
 from ir import Module
@@ -87,7 +88,7 @@ def main() -> int:
     sys.setrecursionlimit(20000)
     if options.mutants:
         return int(faults.report(options.tree, options.only) > 0)
-    for name, lemma in lemmas():
+    for name, lemma in (*arithmetic.lemmas(), *rules.lemmas()):
         solver = z3.Solver()
         solver.add(z3.Not(lemma))
         if solver.check() != z3.unsat:

@@ -225,63 +225,66 @@ ENTRIES = "xx yx xy yy dx dy".split()
 entries = lambda of: ", ".join(f"{of}{it}: i32" for it in ENTRIES)
 matrix = lambda of: "Matrix::from_elements([{}])".format(
     ", ".join(f"Fixed::from_bits({of}{it})" for it in ENTRIES))
-POINT = "Fixed::from_bits(x), Fixed::from_bits(y)"
-
-
-def entry(p: Products, factors: tuple[Any, Any, Any, Any], plus: Any) -> Any:
-    """"An entry or a coordinate is a sum of rounded products", which wraps."""
-    x, y, s, t = factors
-    added = N(0) if plus is None else S(plus)
-    return wrap(32, near(p.times(x, y), 16) + near(p.times(s, t), 16) + added)
-
-
-def coordinate(axis: str, place: int) -> None:
-    of = lambda p, *v: dict(zip([*ENTRIES, "x", "y"], v))
-    moved = lambda p, *v: (lambda m: entry(
-        p, (m[f"{axis}x"], m["x"], m[f"{axis}y"], m["y"]), m[f"d{axis}"]))(of(p, *v))
-    given = entries("a") + ", x: i32, y: i32"
-    case(f"Matrix::transform, {axis}", given, "i32", f"{matrix('a')}.transform({POINT}).{place}.to_bits()",
-         moved)
-    case(f"Matrix * Point, {axis}", given, "i32", f"({matrix('a')} * Point::new({POINT})).{axis}.to_bits()",
-         moved)
-
-
-def product_entry(name: str) -> None:
-    """A row of a by a column of b: the third column of both is dx, dy and 1."""
-    row, column = (name[1], "d") if name[0] == "d" else name
-    rows = {"x": ("xx", "xy"), "y": ("yx", "yy")}
-    columns = {"x": ("xx", "yx"), "y": ("xy", "yy"), "d": ("dx", "dy")}
-
-    def rule(p: Products, *v: Any) -> Any:
-        a, b = dict(zip(ENTRIES, v)), dict(zip(ENTRIES, v[6:]))
-        (s, t), (x, y) = rows[row], columns[column]
-        return entry(p, (a[s], b[x], a[t], b[y]), a[name] if column == "d" else None)
-
-    case(f"Matrix * Matrix, {name}", entries("a") + ", " + entries("b"), "i32",
-         f"({matrix('a')} * {matrix('b')}).{name}.to_bits()", rule)
-
-
-coordinate("x", 0)
-coordinate("y", 1)
-for name in ENTRIES:
-    product_entry(name)
 SPOTS = ["Point::new(Fixed::from_bits({}), Fixed::from_bits({}))".format(*it) for it in ("xy", "st")]
-BOTH = "((it.x.to_bits() as u32 as u64) << 32) | it.y.to_bits() as u32 as u64"
+PAIR = "((it.{}.to_bits() as u32 as u64) << 32) | it.{}.to_bits() as u32 as u64"
+BOTH, ROWS = PAIR.format("x", "y"), {"x": ("xx", "xy", "dx"), "y": ("yx", "yy", "dy")}
+FROM = "Fixed::from_bits(x), Fixed::from_bits(y)"
+
+
+def moved(p: Products, *v: Any) -> list[Any]:
+    """The coordinates of a point that a matrix moves: "a sum of rounded products"."""
+    m = dict(zip([*ENTRIES, "x", "y"], v))
+    return [near(p.times(m[s], m["x"]), 16) + near(p.times(m[t], m["y"]), 16) + S(m[plus])
+            for s, t, plus in ROWS.values()]
+
+
+def product(p: Products, *v: Any) -> dict[str, Any]:
+    """The entries of a product. The columns of b are moved, that of dx and dy as a point."""
+    columns = {it: moved(p, *v[:6], *v[6 + i : 8 + i]) for i, it in ((0, "x"), (2, "y"), (4, "d"))}
+    a = dict(zip(ENTRIES, v))
+    return {name: columns[name[1] if name[0] != "d" else "d"]["xy".index(
+        name[0] if name[0] != "d" else name[1])] - (S(a["d" + name[0]]) if name[0] != "d" else 0)
+            for name in ENTRIES}
+
+
+two = lambda x, y: z3.Concat(wrap(32, x), wrap(32, y))
+all_fit = lambda *n: z3.And([fits(32, it) for it in n])
+given = entries("a") + ", x: i32, y: i32"
+for i, axis in enumerate("xy"):
+    case(f"Matrix::transform, {axis}", given, "i32",
+         f"{matrix('a')}.transform({FROM}).{i}.to_bits()", lambda p, *v, i=i: wrap(32, moved(p, *v)[i]))
+    case(f"Matrix * Point, {axis}", given, "i32", f"({matrix('a')} * {SPOTS[0]}).{axis}.to_bits()",
+         lambda p, *v, i=i: wrap(32, moved(p, *v)[i]))
+case("Matrix::checked_transform", given, "?u64",
+     f"{matrix('a')}.checked_transform({FROM}).map(|(x, y)| {{ let it = Point::new(x, y); {BOTH} }})",
+     lambda p, *v: some(all_fit(*moved(p, *v)), two(*moved(p, *v))))
+given = entries("a") + ", " + entries("b")
+for name in ENTRIES:
+    case(f"Matrix * Matrix, {name}", given, "i32",
+         f"({matrix('a')} * {matrix('b')}).{name}.to_bits()",
+         lambda p, *v, name=name: wrap(32, product(p, *v)[name]))
+for m, n in zip(ENTRIES[::2], ENTRIES[1::2]):
+    case(f"Matrix *=, {m} and {n}", given, "u64",
+         f"{{ let mut it = {matrix('a')}; it *= {matrix('b')}; {PAIR.format(m, n)} }}",
+         lambda p, *v, m=m, n=n: two(product(p, *v)[m], product(p, *v)[n]))
+    case(f"Matrix::checked_mul, {m} and {n}", given, "?u64",
+         f"{matrix('a')}.checked_mul({matrix('b')}).map(|it| {PAIR.format(m, n)})",
+         lambda p, *v, m=m, n=n: (lambda it: some(all_fit(*it.values()), two(it[m], it[n])))(
+             product(p, *v)))
 
 
 def of_points(sign: str, calc: Rule) -> None:
     """"Operations of points work on each coordinate". A quotient is right if both halves are."""
-    halves = lambda result: (z3.Extract(63, 32, result), z3.Extract(31, 0, result))
-    both = lambda p, x, y, s, t, result: z3.And(*(
-        calc(p, *it) for it in zip((x, y), (s, t), halves(result))))
-    by_one = lambda p, x, y, s, result: both(p, x, y, s, s, result)
+    both = lambda p, x, y, s, t, it: z3.And(
+        calc(p, x, s, z3.Extract(63, 32, it)), calc(p, y, t, z3.Extract(31, 0, it)))
     for end, body in (("", "let it = {} {} {};"), ("=", "let mut it = {}; it {}= {};")):
         rust = "{{ " + body + " {} }}"
         relation(f"Point {sign}{end}" + " Point" * (not end), "x: i32, y: i32, s: i32, t: i32", "u64",
                  rust.format(SPOTS[0], sign, SPOTS[1], BOTH), both)
         if sign in "*/":
             relation(f"Point {sign}{end} T", "x: i32, y: i32, s: i32", "u64",
-                     rust.format(SPOTS[0], sign, "Fixed::from_bits(s)", BOTH), by_one)
+                     rust.format(SPOTS[0], sign, "Fixed::from_bits(s)", BOTH),
+                     lambda p, x, y, s, it: both(p, x, y, s, s, it))
 
 
 of_points("+", lambda p, x, s, it: it == wrap(32, S(x) + S(s)))
@@ -289,7 +292,12 @@ of_points("-", lambda p, x, s, it: it == wrap(32, S(x) - S(s)))
 of_points("*", lambda p, x, s, it: it == wrap(32, near(p.times(x, s), 16)))
 of_points("/", lambda p, x, s, it: scaled(p, x, z3.BitVecVal(1 << 16, 32), s, it))
 case("-Point", "x: i32, y: i32", "u64", f"{{ let it = -{SPOTS[0]}; {BOTH} }}",
-     lambda p, x, y: z3.Concat(wrap(32, -S(x)), wrap(32, -S(y))))
+     lambda p, x, y: two(-S(x), -S(y)))
+for name, calc in (("add", lambda x, y: S(x) + S(y)), ("sub", lambda x, y: S(x) - S(y))):
+    case(f"Point::checked_{name}", "x: i32, y: i32, s: i32, t: i32", "?u64",
+         f"{SPOTS[0]}.checked_{name}({SPOTS[1]}).map(|it| {BOTH})",
+         lambda p, x, y, s, t, calc=calc: (lambda a, b: some(all_fit(a, b), two(a, b)))(
+             calc(x, s), calc(y, t)))
 
 # ---------------------------------------------------------------- integers of 24 bits
 LARGEST = 0xFF_FFFF
@@ -448,14 +456,14 @@ case("TryFromGlyphIdError::value", "x: u32", "u32",
      lambda p, x: wrap(32, z3.If(fits_unsigned(16, U(x)), N(0), U(x))))
 ordered = lambda x, y: z3.If(U(x) < U(y), z3.BitVecVal(-1, 8), z3.If(
     U(x) == U(y), z3.BitVecVal(0, 8), z3.BitVecVal(1, 8)))
-PAIR = "GlyphId16::new(x)", "GlyphId::new(y)"
-case("GlyphId16::eq_gid", "x: u16, y: u32", "bool", "{}.eq_gid(&{})".format(*PAIR),
+IDS = "GlyphId16::new(x)", "GlyphId::new(y)"
+case("GlyphId16::eq_gid", "x: u16, y: u32", "bool", "{}.eq_gid(&{})".format(*IDS),
      lambda p, x, y: B(U(x) == U(y)))
-case("GlyphId16::cmp_gid", "x: u16, y: u32", "i8", "{}.cmp_gid(&{}) as i8".format(*PAIR),
+case("GlyphId16::cmp_gid", "x: u16, y: u32", "i8", "{}.cmp_gid(&{}) as i8".format(*IDS),
      lambda p, x, y: ordered(x, y))
-case("GlyphId::eq_gid16", "x: u16, y: u32", "bool", "{1}.eq_gid16(&{0})".format(*PAIR),
+case("GlyphId::eq_gid16", "x: u16, y: u32", "bool", "{1}.eq_gid16(&{0})".format(*IDS),
      lambda p, x, y: B(U(x) == U(y)))
-case("GlyphId::cmp_gid16", "x: u16, y: u32", "i8", "{1}.cmp_gid16(&{0}) as i8".format(*PAIR),
+case("GlyphId::cmp_gid16", "x: u16, y: u32", "i8", "{1}.cmp_gid16(&{0}) as i8".format(*IDS),
      lambda p, x, y: ordered(y, x))
 case("GlyphId16 == GlyphId", "x: u16, y: u32", "bool", "GlyphId16::new(x) == GlyphId::new(y)",
      lambda p, x, y: B(U(x) == U(y)))

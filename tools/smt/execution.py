@@ -97,11 +97,8 @@ class Machine:
         for index in range(state.index, len(block)):
             it = block[index]
             if it.op == "ret":
-                if it.text == "void":
-                    raise Unsupported("a function without a result")
-                value = self.promised(
-                    self.value(*take_type(it.text), state), function.returns, state
-                )
+                value = self.value(*take_type(it.text), state)
+                value = self.promised(value, function.returns, state)
                 yield End(value, state.memory, state.conditions)
             elif it.op == "unreachable":
                 self.goals.bad("`unreachable` is reached", state)
@@ -242,6 +239,8 @@ class Machine:
 
     def value(self, type_: str, text: str, state: State) -> Value:
         """Returns an operand. `undef` is taken for poison, of which less is known."""
+        if type_ == "void":
+            return []
         if text[0] == "%":
             return state.names[text]
         if type_ == "ptr":

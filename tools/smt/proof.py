@@ -50,7 +50,10 @@ class Proof:
         self.module, self.case, self.library, self.folder = module, case, library, goals
         self.goals = self.asked = self.agreed = 0
         self.is_met = False
-        use_width(200 if case.has("i128", "terms") or "i128" in case.returns else 90)
+        # No number of a rule has as many bits.
+        has_64 = case.has("i64", "u64", "room", "bytes")
+        has_128 = case.has("i128", "terms") or "i128" in case.returns
+        use_width(200 if has_128 else 90 if has_64 else 68)
 
     def run(self) -> None:
         """Proves the function, or raises why not."""
@@ -68,7 +71,8 @@ class Proof:
             value = number_of(end.value)
             self.refute("undefined behavior: the result is poison", end.conditions + [value.poison])
             right = self.right(self.products, self.given, value.bits, end)
-            self.refute("wrong result", end.conditions + [z3.Not(right)])
+            for part in right:
+                self.refute("wrong result", end.conditions + [z3.Not(part)])
             self.is_met = (
                 self.is_met
                 or self.solver(z3.And(end.conditions), self.arithmetic.facts).check() == z3.sat
@@ -79,12 +83,17 @@ class Proof:
 
     def right(
         self, products: Products, given: Inputs, result: Any, end: End | None = None
-    ) -> BoolRef:
-        """Returns the rule's condition of a result and of what the function leaves in a slice."""
+    ) -> list[BoolRef]:
+        """Returns the rule's conditions of a result and of what the function leaves in a slice."""
         case, of_rule = self.case, list(given.of_rule)
         if not case.is_relation:
             expected = case.rule(products, *of_rule)
-            return z3.ZeroExt(result.size() - expected.size(), expected) == result
+            expected = z3.ZeroExt(result.size() - expected.size(), expected)
+            parts = range(0, result.size(), 32 if result.size() == 128 else result.size())
+            last = min(result.size(), 32 if result.size() == 128 else result.size()) - 1
+            return [
+                z3.Extract(i + last, i, expected) == z3.Extract(i + last, i, result) for i in parts
+            ]
         if case.has("room"):
             memory = end.memory if end else given.memory
             after = [it for name, it in memory.items() if name in given.memory]
@@ -92,7 +101,7 @@ class Proof:
             of_rule.insert(-1, result)
         else:
             of_rule.append(result)
-        return case.rule(products, *of_rule)
+        return [case.rule(products, *of_rule)]
 
     def solver(self, goal: BoolRef, facts: list[BoolRef], seconds: int = TIME) -> Any:
         solver = z3.SolverFor("QF_UFBV")
@@ -162,7 +171,7 @@ class Proof:
 
     def compare(self, products: Products, given: Inputs, result: int, at: str) -> None:
         width = result_width(self.case)
-        wrong = z3.simplify(z3.Not(self.right(products, given, constant(result, width))))
+        wrong = z3.simplify(z3.Not(z3.And(self.right(products, given, constant(result, width)))))
         if not z3.is_false(wrong) and self.solver(wrong, []).check() != z3.unsat:
             raise Refused(f"the compiled Rust returns {shown_result(self.case, result)} {at}")
 

@@ -6,7 +6,7 @@ A number is a vector of W bits, which is read as a signed integer. No sum or pro
 
 from __future__ import annotations
 
-from collections.abc import Callable, Sequence
+from collections.abc import Callable, Iterator, Sequence
 from typing import NamedTuple
 
 import z3
@@ -99,9 +99,19 @@ def up(n: BitVecRef, k: int) -> BitVecRef:
 
 
 def near(n: BitVecRef, k: int) -> BitVecRef:
-    """n / 2^k, rounded "half away from zero": the sign of n, and floor(|n| / 2^k + 1/2)."""
-    rounded = up(absolute(n), k)
-    return z3.If(n < 0, -rounded, rounded)
+    """n / 2^k, rounded "half away from zero". By the lemma NEAR it has the sign of n, and its
+    magnitude is floor(|n| / 2^k + 1/2)."""
+    return (n + (1 << k - 1) - z3.If(n < 0, N(1), N(0))) >> k
+
+
+def lemmas() -> Iterator[tuple[str, BoolRef]]:
+    """That `near` is what it has to be, for each number of fraction bits of a product."""
+    use_width(68)
+    n = z3.BitVec("n", W)
+    rounded = {k: up(absolute(n), k) for k in (6, 16)}
+    for k, it in rounded.items():
+        is_it = near(n, k) == z3.If(n < 0, -it, it)
+        yield "NEAR", z3.Implies(z3.And(n < N(1 << 64), n > N(-(1 << 64))), is_it)
 
 
 class Products:

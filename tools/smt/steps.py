@@ -214,33 +214,38 @@ def is_null(address: Address) -> BoolRef:
 
 
 def compare_addresses(machine: Machine, kind: str, a: Address, b: Address, state: State) -> Number:
-    """Compares addresses of one object by their offsets, or an address with null."""
+    """Compares addresses of one object by their offsets, and of two objects as numbers."""
     poison = any_of(a.poison, b.poison)
-    if a.object != b.object:
-        if kind not in ("eq", "ne") or None not in (a.object, b.object):
-            raise Unsupported("a comparison of two objects")
-        if not all(is_constant(it.offset) and not it.offset.as_long() for it in (a, b)):
-            raise Unsupported("a comparison of an address with a number")
-        return Number(constant(int(kind == "ne"), 1), poison)
-    for it in (a, b):
-        if it.object is not None and kind not in ("eq", "ne"):
-            length = machine.memory.object(it, state).length
-            machine.goals.check("an address out of bounds", z3.UGT(it.offset, length), state)
-    return Number(bit_of(COMPARE[kind](a.offset, b.offset)), poison)
+    if a.object == b.object and kind in ("eq", "ne"):
+        return Number(bit_of(COMPARE[kind](a.offset, b.offset)), poison)
+    x, y = (number_of_address(machine, it, state) for it in (a, b))
+    if a.object != b.object and ("%alloca" in str(a.object) or "%alloca" in str(b.object)):
+        # An object of the function's own is apart from each other object: from an address within
+        # the lower one it is at least as far to the other as to the end.
+        m, n = (machine.memory.object(it, state).length for it in (a, b))
+        inside = z3.And(z3.ULE(a.offset, m), z3.ULE(b.offset, n))
+        above = z3.And(z3.ULE(x, y), z3.UGE(y - x, m - a.offset))
+        below = z3.And(z3.ULE(y, x), z3.UGE(x - y, n - b.offset))
+        machine.arithmetic.facts.append(z3.Implies(inside, z3.Or(above, below)))
+    return Number(bit_of(COMPARE[kind](x, y)), poison)
+
+
+def number_of_address(machine: Machine, address: Address, state: State) -> BitVecRef:
+    """Objects are somewhere: aligned, not at zero, and not across the end of memory."""
+    if address.object is None:
+        return address.offset
+    place, base = machine.memory.object(address, state), z3.BitVec(f"at_{address.object}", 64)
+    facts = [base != 0, z3.ULE(base, -place.length - 1), base & place.align - 1 == 0]
+    machine.arithmetic.facts += facts
+    return base + address.offset
 
 
 def address_as_number(machine: Machine, it: Instruction, state: State) -> Value:
-    """Objects are somewhere: aligned, not at zero, and not across the end of memory."""
     source, target = it.text.rsplit(" to ", 1)
     address = address_of(operand(machine, source, state))
     if target != "i64":
         raise Unsupported(it.text)
-    if address.object is None:
-        return Number(address.offset, address.poison)
-    place, base = machine.memory.object(address, state), z3.BitVec(f"at_{address.object}", 64)
-    facts = [base != 0, z3.ULE(base, -place.length - 1), z3.URem(base, place.align) == 0]
-    machine.arithmetic.facts += facts
-    return Number(base + address.offset, address.poison)
+    return Number(number_of_address(machine, address, state), address.poison)
 
 
 def get_element(machine: Machine, it: Instruction, state: State) -> Value:

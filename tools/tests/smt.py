@@ -52,8 +52,8 @@ class Function:
             return name in (expected, f"{expected} {type_}")
         if operator in ("From", "TryFrom"):
             return name == f"{type_}: {self.trait}"
-        row = f"{name} {rust}"
-        return bool(re.search(rf"\b{type_}\b", row) and re.search(rf"\b{self.name}\b", row))
+        called = rf"\b{type_}\b.*(\.|::){self.name}\b|Scalar::{self.name}\(.*\b{type_}\b"
+        return bool(re.search(called, name) or re.search(called, rust))
 
     def place(self, rows):
         """Returns whether rows call the function, of a type of several formats a row for each, or
