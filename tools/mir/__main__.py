@@ -36,7 +36,7 @@ ONE_SIDED = {
     "an impl's copy of a trait's default, in Rattle": 80,
     "another trait of a closure, in Rattle": 19,
     "declared by a trait or dropped, in Rattle": 41,
-    "derived `Clone` or `Eq`, in Rust": 70,
+    "derived `Clone` or `Eq`, in Rust": 71,
     "derived besides, in Rust": 11,
     "of a module that is left out, in Rattle": 48,
     "the constructor of a tuple, in Rust": 24,

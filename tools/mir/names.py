@@ -143,7 +143,11 @@ class Names:
         """Returns the function of Rattle that a path of Rust names, and with what types."""
         keys = path.keys(self.aliases) if path.kind else [(self.exported(path), [])]
         found = ((self.ours[it], rest) for it, rest in keys if it in self.ours)
-        return next(found, (None, []))
+        of, rest = next(found, (None, []))
+        # An `impl` of a type with these arguments alone has their names in its own.
+        own = re.search(r"[^+]\+(\w+)::\w+$", of or "")
+        is_own = own and own[1] in (it for it, _ in joined(rest, self.aliases))
+        return of, [] if is_own else rest
 
     def exported(self, path):
         """Returns the path of a function of no type, by the modules that re-export it. Those of the

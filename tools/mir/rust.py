@@ -363,7 +363,7 @@ class Body(Function):
     def value(self, text):
         operation = OPERATION.fullmatch(text)
         unary = re.fullmatch(r"(discriminant|PtrMetadata)\((?:copy |move )?(.*)\)", text)
-        borrowed = re.fullmatch(r"&(?:mut )?([_(].*)", text)
+        borrowed = re.fullmatch(r"&(?:mut |raw const \(fake\) )?([_(].*)", text)
         if operation:
             return self.operated(operation[1].removeprefix("Bit"), split(operation[2]))
         if unary:

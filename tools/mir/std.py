@@ -147,8 +147,9 @@ def shown(how, integer, term, *layout):
 
 def integer_of(impl, trait="Debug"):
     """Returns the integer of which this is the impl of a trait, or of references to it."""
-    found = re.search(rf"::([UI]\d+|[UI]size){trait}", json.dumps(impl))
-    return found and found[1].lower()
+    text = json.dumps(impl)
+    found = re.search(rf"::([UI]\d+|[UI]size){trait}", text)
+    return found[1].lower() if found and "Slice" not in text else None
 
 
 def write(body, found, terms, callee):
