@@ -44,8 +44,7 @@ ONE_SIDED = {
 
 
 def report(names, faults):
-    """Compares all functions, and returns how many differ, or are on one side without a reason,
-    with other faults."""
+    """Compares all functions, and returns how many faults there are, with those that are given."""
     compared = [*compare(names)]
     reasons, alone = names.alone()
     compared += [(name, "on one side alone") for name in alone]
@@ -101,7 +100,7 @@ def main():
     except FileNotFoundError as error:
         fault = f"{error.filename} is missing: run `rt lib` in font_lines, variations and font_c"
     except subprocess.CalledProcessError as error:
-        fault = f"{error}"
+        fault = f"{error.stderr or ''}{error}"
     except FAULTS as error:
         fault = f"{type(error).__name__}: {error}\n{ADVICE}"
     print(fault, file=sys.stderr)

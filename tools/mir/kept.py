@@ -17,8 +17,7 @@ def left_of(root, crate):
 
 
 def left(root, crates):
-    """Returns what `rt` left of each crate, of a library alone. Beside it is a sum of the sources,
-    unless the gate has just made it."""
+    """Returns what `rt` left of each crate, of a library alone, if it is of this tree."""
     sys.path.append(str(Path(shutil.which("rt") or "rt").resolve().parent))
     import rtlib  # of the kit
 

@@ -3,6 +3,7 @@
 import collections
 import re
 import shutil
+import subprocess
 import sys
 import tempfile
 from pathlib import Path
@@ -16,8 +17,9 @@ from rust import PLACE
 # What cargo needs of the repository.
 NEEDED = ("Cargo.toml", "Cargo.lock", "src", "examples", "c", "variations")
 
-# How many edits have no place in the Rust, such as those of ghost items and of whole `impl`s.
-NOWHERE, HOW_MANY = "change what is in no function of the Rust", 5
+# How many edits have no place in the Rust, such as those of ghost items, and how many are no Rust.
+NOWHERE, NO_RUST = "change what is in no function of the Rust", "do not compile as Rust"
+HOW_MANY = {NOWHERE: 5, NO_RUST: 1}
 
 START = re.compile(r"^( *)(?:[\w\"()]+ )*?fn (\w+)", re.M)
 OUTER = re.compile(r"^(?:pub(?:\(.*?\))? )?(?:impl|trait (\w+))", re.M)
@@ -54,6 +56,11 @@ class Edit:
             self.keys |= {self.key_at(it) for it in self.uses(found[0])}
         if len(found) != 1 or None in self.keys or not self.keys:
             self.reason = NOWHERE
+
+    def is_at(self, told):
+        """Returns whether rustc tells of an error at an edited line."""
+        lines = [self.source.count("\n", 0, start) + 1 for start, _, _ in self.changes]
+        return any(f" {self.file}:{line}:" in told for line in lines)
 
     def uses(self, found):
         """Returns where a text is or, of a constant, where the file uses that."""
@@ -94,7 +101,7 @@ def batches(placed):
 
 
 def differing(root, batch, crates):
-    """Returns the functions of Rattle that differ from the Rust with these edits."""
+    """Returns the functions that differ from the Rust with those of the edits that compile."""
     changes = collections.defaultdict(list)
     for edit in batch:
         changes[edit.file] += edit.changes
@@ -108,27 +115,36 @@ def differing(root, batch, crates):
             for start, end, new in sorted(found, reverse=True):
                 text = text[:start] + new + text[end:]
             (room / file).write_text(text)
-        return {one for one, fault in compare(read(room, Sources(room), crates)) if fault}
+        try:
+            return {one for one, fault in compare(read(room, Sources(room), crates)) if fault}
+        except subprocess.CalledProcessError as error:
+            wrong = [it for it in batch if it.is_at(error.stderr)]
+            if not wrong:
+                raise
+            for it in wrong:
+                it.reason = NO_RUST
+    return differing(root, [it for it in batch if not it.reason], crates)
 
 
 def report(root, both, crates):
     """Compares the Rust with as many mutants at a time as change different functions, and returns
     how many faults there are: functions with a mutant that are equal, or without that are not."""
     mutants = [Edit(it, both.sources, root) for it in edits.edits(root)]
-    placed = [it for it in mutants if not it.reason]
     keys = {one: key_of(other) for one, other in both.both.items()}
     errors, passed = [], set()
-    for batch in batches(placed):
+    for batch in batches([it for it in mutants if not it.reason]):
         found = {keys[it] for it in differing(root, batch, crates)}
-        passed |= {it.name for it in batch if not it.keys <= found}
+        passed |= {it.name for it in batch if not (it.reason or it.keys <= found)}
         alone = found - set().union(*(it.keys for it in batch))
         errors += [f"{it} differs without a mutant" for it in sorted(alone)]
     reasons = collections.Counter(it.reason for it in mutants if it.reason)
-    if reasons[NOWHERE] != HOW_MANY:
-        errors.append(f"{reasons[NOWHERE]} mutants, not {HOW_MANY}, {NOWHERE}")
+    for reason, count in HOW_MANY.items():
+        if reasons[reason] != count:
+            errors.append(f"{reasons[reason]} mutants, not {count}, {reason}")
     for error in errors + [f"{it} passes as a mutant of MIR" for it in sorted(passed)]:
         print(error, file=sys.stderr)
     others = "; ".join(f"{count} {reason}" for reason, count in sorted(reasons.items()))
-    count = f"{len(placed) - len(passed)} of {len(placed)}"
+    placed = len(mutants) - reasons.total()
+    count = f"{placed - len(passed)} of {placed}"
     print(f"mutants of MIR: {count} refused ({others})")
     return len(errors) + len(passed)

@@ -144,8 +144,7 @@ class Names:
         keys = path.keys(self.aliases) if path.kind else [(self.exported(path), [])]
         found = ((self.ours[it], rest) for it, rest in keys if it in self.ours)
         of, rest = next(found, (None, []))
-        # An `impl` of a type with these arguments alone has their names in its own.
-        own = re.search(r"[^+]\+(\w+)::\w+$", of or "")
+        own = re.search(r"[^+]\+(\w+)::\w+$", of or "")  # of an `impl` for these arguments alone
         is_own = own and own[1] in (it for it, _ in joined(rest, self.aliases))
         return of, [] if is_own else rest
 
@@ -153,8 +152,7 @@ class Names:
         """Returns the path of a function of no type, by the modules that re-export it. Those of the
         library's root are of `font_types`, but for what `src/lib.rs` names itself."""
         name = "::".join([*path.module, path.name])
-        root = name.split("::")[0]
-        if root not in self.sources.crates.values() and root not in self.sources.by_hand:
+        if not {name.split("::")[0]} & {*self.sources.crates.values(), *self.sources.by_hand}:
             name = f"font_types::{name}"
         while name in self.exports:
             name = self.exports[name]

@@ -87,7 +87,8 @@ def printed(root, package, target):
     """Returns the MIR of a target, with the paths that it has in the library."""
     with tempfile.TemporaryDirectory() as room:
         cargo = ["cargo", "rustc", "--quiet", target, "--target-dir", room, "--", *FLAGS]
-        subprocess.run(cargo, cwd=root / package, check=True, env=os.environ | ENVIRONMENT)
+        how = {"check": True, "env": os.environ | ENVIRONMENT, "capture_output": True, "text": True}
+        subprocess.run(cargo, cwd=root / package, **how)
         folder = "examples" if "example" in target else "deps"
         (file,) = Path(room, "debug", folder).glob("*.mir")
         text = as_in_library(file.read_text())
