@@ -43,8 +43,8 @@ class Arithmetic:
         if z3.is_app_of(bits, z3.Z3_OP_CONCAT) and z3.simplify(bits.arg(0) == 0).eq(
             z3.BoolVal(True)
         ):
-            return (1 << bits.size() - bits.arg(0).size()) - 1
-        return (1 << bits.size()) - 1
+            return int((1 << bits.size() - bits.arg(0).size()) - 1)
+        return int((1 << bits.size()) - 1)
 
     def keep(self, bits: BitVecRef, greatest: int) -> BitVecRef:
         """Notes that the value of `bits`, unsigned, never exceeds `greatest`."""

@@ -4,6 +4,8 @@ The parameters of a row are the unknown arguments. `?i32` is an `Option<i32>`, `
 bytes. A rule gives the result as a vector; that of a `relation` takes the result too, and says
 whether it is right."""
 
+# mypy: allow-untyped-calls
+
 from __future__ import annotations
 
 import re
@@ -105,7 +107,8 @@ def products(T: str, f: int) -> None:
     one = z3.BitVecVal(1 << f, 32)
     product = lambda p, x, y: wrap(32, near(p.times(x, y), f))
     quotient = lambda p, x, y, result: scaled(p, x, one, y, result)
-    for sign, rule, is_relation in (("*", product, False), ("/", quotient, True)):
+    rules: list[tuple[str, Rule, bool]] = [("*", product, False), ("/", quotient, True)]
+    for sign, rule, is_relation in rules:
         case(f"{T} {sign}", two, "i32", f"({n}(x) {sign} {n}(y)).to_bits()", rule, is_relation)
         case(f"{T} {sign}=", two, "i32", f"{{ let mut z = {n}(x); z {sign}= {n}(y); z.to_bits() }}",
              rule, is_relation)
@@ -215,10 +218,12 @@ case("delta_sum", "terms: terms", "i64", "delta_sum(terms).to_bits()",
      lambda p, terms: terms.all(64))
 case("checked_delta_sum", "terms: terms", "?i64",
      "checked_delta_sum(terms).map(F48Dot16::to_bits)", lambda p, terms: checked(64, S(terms.all(128))))
+# `Some(n)` as 2 n + 1, and 2 if that does not fit.
 case("vary", "x: i16, terms: terms", "i128",
-     "vary(FWord::new(x), terms).unwrap_or(i128::MAX)",
-     lambda p, x, terms: wrap(128, z3.If(fits(64, S(terms.all(128))), S(x) * 65536 + S(
-         terms.all(128)), N((1 << 127) - 1))))
+     "match vary(FWord::new(x), terms) { None => 0, Some(it) if it >> 126 == it >> 127 =>"
+     " it << 1 | 1, Some(_) => 2 }",
+     lambda p, x, terms: wrap(128, z3.If(fits(64, S(terms.all(128))), 2 * (
+         S(x) * 65536 + S(terms.all(128))) + 1, N(0))))
 
 # ---------------------------------------------------------------- matrices and points
 ENTRIES = "xx yx xy yy dx dy".split()
@@ -317,6 +322,8 @@ case("Int24::new", "x: i32", "i32", "Int24::new(x).to_i32()",
      lambda p, x: z3.SignExt(8, saturate(24, S(x))))
 case("Int24::checked_new", "x: i32", "?i32", "Int24::checked_new(x).map(Int24::to_i32)",
      lambda p, x: some(fits(24, S(x)), x))
+case("i32: From<Int24>", "x: i32", "i32", "i32::from(Int24::new(x))",
+     lambda p, x: z3.SignExt(8, saturate(24, S(x))))
 case("Int24::to_be_bytes", "x: i32", "[3]", "Int24::new(x).to_be_bytes()",
      lambda p, x: big_endian(saturate(24, S(x)), 3))
 
@@ -505,7 +512,6 @@ GlyphId16: From<u16>  u16  u16  GlyphId16::from(x).to_u16()
 NameId: From<u16>  u16  u16  NameId::from(x).to_u16()
 FWord: From<i16>  i16  i16  FWord::from(x).to_i16()
 UfWord: From<u16>  u16  u16  UfWord::from(x).to_u16()
-i32: From<Int24>  i16  i32  i32::from(Int24::new(x as i32))
 u32: From<Uint24>  u32  u32  u32::from(Uint24::new(x))
 usize: From<Uint24>  u32  u64  usize::from(Uint24::new(x)) as u64
 u16: From<NameId>  u16  u16  u16::from(NameId::new(x))

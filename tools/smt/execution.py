@@ -53,7 +53,7 @@ class Machine:
         self.module, self.arithmetic, self.goals, self.loops = module, arithmetic, goals, loops
         self.memory = Memory(goals)
         self.globals = globals_of(module)
-        self.count = 0
+        self.count, self.owned = 0, dict[str, Object]()
 
     def name(self, kind: str) -> str:
         self.count += 1
@@ -71,7 +71,8 @@ class Machine:
     ) -> Iterator[End]:
         """Yields what each path returns."""
         function = self.module.functions[name]
-        names, first = {}, next(iter(function.blocks))
+        names: dict[str, Value] = {}
+        first = next(iter(function.blocks))
         state = State(first, 0, "", names, {**self.globals, **memory}, list(conditions), {})
         for (_, attributes, parameter), argument in zip(function.parameters, arguments):
             names[parameter] = self.promised(argument, attributes, state)
@@ -86,15 +87,26 @@ class Machine:
         if isinstance(value, Number) and attributes.range:
             value = Number(value.bits, any_of(value.poison, out_of(attributes.range, value.bits)))
         if isinstance(value, Address) and attributes.nonnull:
-            value = value._replace(poison=any_of(value.poison, steps.is_null(value)))
+            value = value._replace(poison=any_of(value.poison, self.may_be_null(value, state)))
+        if isinstance(value, Address) and attributes.align > 1:
+            wrong = value.offset & attributes.align - 1 != 0
+            if value.object and self.memory.object(value, state).align < attributes.align:
+                wrong = YES
+            value = value._replace(poison=any_of(value.poison, z3.simplify(wrong)))
         if attributes.noundef and not isinstance(value, list):
             self.goals.check("`noundef` of poison", value.poison, state)
         return value
 
+    def may_be_null(self, address: Address, state: State) -> BoolRef:
+        """No object is at address zero, and none ends there."""
+        if address.object is None:
+            return z3.simplify(address.offset == 0)
+        return z3.simplify(z3.UGT(address.offset, self.memory.object(address, state).length))
+
     def go_on(self, function: Function, state: State, paths: list[State]) -> Iterator[End]:
         """Runs a path to its end or to where it branches."""
         block = function.blocks[state.block]
-        for index in range(state.index, len(block)):
+        for index in range(state.at, len(block)):
             it = block[index]
             if it.op == "ret":
                 value = self.value(*take_type(it.text), state)
@@ -105,12 +117,12 @@ class Machine:
             elif it.op in ("br", "switch"):
                 self.branch(function, it, state, paths)
             elif it.op == "call" and (called := self.called(it)):
-                self.call(it, *called, state._replace(index=index + 1), paths)
+                self.call(it, *called, state._replace(at=index + 1), paths)
                 return
             elif it.op != "phi":
-                value = steps.step(self, it, state)
-                if value is not None:
-                    state.names[it.target] = self.described(value, it, state)
+                result = steps.step(self, it, state)
+                if result is not None:
+                    state.names[it.target] = self.described(result, it, state)
 
     def described(self, value: Value, it: Instruction, state: State) -> Value:
         """The metadata of a load or of a call: `!range` makes another value poison, `!noundef`
@@ -177,14 +189,14 @@ class Machine:
         if state.visits[target] > 400:
             raise Unsupported("a loop of more than 400 turns")
         phis = [it for it in function.blocks[target] if it.op == "phi"]
-        values = {it.target: self.phi(it, state) for it in phis}
+        values: dict[str, Value] = {it.target: self.phi(it, state) for it in phis}
         if self.loops and self.loops.is_head(function, target):
             found = self.loops.at_head(function, target, phis, values, state)
             if found is None:
                 return
             values = found
         paths.append(
-            state._replace(block=target, index=0, before=state.block, names=state.names | values)
+            state._replace(block=target, at=0, before=state.block, names={**state.names, **values})
         )
 
     def phi(self, it: Instruction, state: State) -> Value:
@@ -230,9 +242,12 @@ class Machine:
         if name not in self.module.functions:
             raise Unsupported(f"call of {name}")
         for end in self.run(name, values, state.memory, state.conditions):
-            after = state._replace(memory=end.memory, conditions=end.conditions).copy()
+            # What the called function owned is not there any more.
+            kept = {name: end.memory[name] for name in state.memory if name in end.memory}
+            after = state._replace(memory=kept, conditions=end.conditions).copy()
             with suppress(Ended):
-                after.names[it.target] = self.promised(end.value, returns, after)
+                value = self.promised(end.value, returns, after)
+                after.names[it.target] = self.described(value, it, after)
                 paths.append(after)
 
     # ------------------------------------------------------------ operands

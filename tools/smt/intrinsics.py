@@ -20,7 +20,7 @@ from values import (
 if TYPE_CHECKING:
     from execution import Machine
 
-IGNORED = ("lifetime", "experimental.noalias", "dbg", "donothing")
+IGNORED = ("experimental.noalias", "dbg", "donothing")
 
 
 def call(
@@ -97,8 +97,8 @@ def with_overflow(
 def copy(machine: Machine, name: str, values: list[Value], state: State) -> None:
     """Copies bytes, or sets each to one number. What `memcpy` copies is not where it is put,
     except in one place."""
-    target, size = address_of(values[0]), number_of(values[2]).bits
-    if not is_constant(size):
+    target, (size, poison) = address_of(values[0]), number_of(values[2])
+    if not is_constant(size) or not z3.is_false(poison):
         raise Unsupported(f"{name} of unknown length")
     count, memory = int(size.as_long()), machine.memory
     if not count:

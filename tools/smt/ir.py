@@ -95,8 +95,10 @@ def take_attributes(text: str) -> tuple[Attributes, str]:
         elif found[2] == "range":
             low, high = found[3].split(" ", 1)[1].split(", ")
             kept = kept._replace(range=(int(low), int(high)))
-        elif found[2] in ("noundef", "nonnull"):
-            kept = kept._replace(**{found[2]: True})
+        elif found[2] == "noundef":
+            kept = kept._replace(noundef=True)
+        elif found[2] == "nonnull":
+            kept = kept._replace(nonnull=True)
         elif found[2] not in PASSED_OVER:
             raise Unsupported(f"attribute `{found[0]}`")
         text = text[found.end() :]
@@ -205,6 +207,7 @@ class Module:
                 block = blocks.setdefault("%" + found[1], [])
             elif line.strip() and not line.lstrip().startswith(";"):
                 if line.lstrip().startswith("switch "):
-                    line += " ".join(iter(lines.__next__, "  ]"))
+                    while "]" not in line:
+                        line += " " + next(lines).strip()
                 block.append(instruction(line.strip()))
         return blocks

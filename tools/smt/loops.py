@@ -19,8 +19,9 @@ class Head:
     """The head of a loop: which name has an address, which count and by how much a turn, and how
     many terms a turn adds. The names are guessed: a wrong guess has a false invariant."""
 
-    def __init__(self, block: list[Instruction], values: dict[str, Value]) -> None:
-        self.entered = values
+    def __init__(self, block: list[Instruction], state: State, values: dict[str, Value]) -> None:
+        self.entered, self.memory = values, dict(state.memory)
+        self.offset = constant(0)
         self.address = next((it for it in values if isinstance(values[it], Address)), "")
         if not self.address:
             raise Unsupported("a loop over no array")
@@ -36,7 +37,7 @@ class Head:
 
 
 class Loops:
-    """The invariant of a loop over n terms, before a turn of s terms of which k are done: s more
+    """A loop ends, because each turn goes on, and it stores nothing. Its invariant, before a turn of s terms of which k are done: s more
     are there; the address is that of term k; each other name has the sum of the first k terms, in
     its width, or counts the turns."""
 
@@ -66,13 +67,19 @@ class Loops:
         """Before the first turn, shows the invariant and returns any values that meet it. After a
         turn, shows that the values meet it again."""
         if state.visits[block] > 1:
-            self.show(self.heads[state.visits[f"head {block}"]], values, state)
+            head = self.heads[state.visits[f"head {block}"]]
+            self.show(head, values, state)
+            offset = address_of(values[head.address]).offset
+            back = z3.ULE(offset, head.offset)
+            self.goals.check("a turn of a loop does not go on", back, state)
+            if any(state.memory.get(name) is not it for name, it in head.memory.items()):
+                raise Unsupported("a loop that stores")
             return None
-        head = Head(function.blocks[block], values)
+        head = Head(function.blocks[block], state, values)
         self.show(head, values, state)
         state.visits[f"head {block}"] = len(self.heads)
         self.heads.append(head)
-        offset = z3.BitVec(f"offset{len(self.heads)}", 64)
+        offset = head.offset = z3.BitVec(f"offset{len(self.heads)}", 64)
         unknown: dict[str, Value] = {head.address: Address(self.text, offset)}
         for name, it in values.items():
             if name != head.address:

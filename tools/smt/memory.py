@@ -23,7 +23,7 @@ class Part(NamedTuple):
     """One of the eight bytes of a stored address."""
 
     address: Address
-    index: int
+    byte: int
 
 
 Cell = Union[Number, Part, None]
@@ -62,7 +62,10 @@ def globals_of(module: Module) -> dict[str, Object]:
     found: dict[str, Object] = {}
     for name, (type_, text, align) in module.constants.items():
         try:
-            found[name] = Cells(tuple(cells_of(type_, text)), align, True)
+            cells = tuple(cells_of(type_, text))
+            if len(cells) != size_of(type_):
+                raise Unsupported(f"constant {text}")
+            found[name] = Cells(cells, align, True)
         except Unsupported:
             # Only panics refer to such a constant; a load of it finds no memory.
             continue
@@ -72,14 +75,16 @@ def globals_of(module: Module) -> dict[str, Object]:
 def cells_of(type_: str, text: str) -> list[Cell]:
     """Returns the bytes of a constant, the lowest first."""
     if text.startswith('c"'):
-        found = re.findall(r"\\([0-9A-F]{2})|(.)", text[2:-1])
+        found = re.findall(r"\\([0-9A-F]{2})|\\?(.)", text[2:-1])
         return [Number(constant(int(hex_, 16) if hex_ else ord(it), 8)) for hex_, it in found]
     if text == "zeroinitializer":
         return [Number(constant(0, 8))] * size_of(type_)
     if type_ == "ptr":
         return [None] * 8
     if re.fullmatch(r"-?\d+", text):
-        return [Number(constant(int(text) >> 8 * i, 8)) for i in range(stored_size(type_))]
+        size = stored_size(type_)
+        bytes_ = [Number(constant(int(text) >> 8 * i & 255, 8)) for i in range(size)]
+        return [*bytes_, *[None] * (size_of(type_) - size)]
     edge = {"[": 1, "<": 2}.get(type_[0])
     if not edge:
         raise Unsupported(f"constant {type_} {text[:40]}")

@@ -194,9 +194,9 @@ class Proof:
         for _ in range(3 if self.arithmetic.nodes else 0):
             given = chosen(self.case, chance)
             values = [
-                (it, constant(given[name], it.size()))
+                (it, constant(number, it.size()))
                 for name, it in self.given.variables.items()
-                if name in given
+                if isinstance(number := given.get(name), int)
             ]
             fact = self.arithmetic.contradicted(values)
             if fact is not None:

@@ -105,13 +105,13 @@ def near(n: BitVecRef, k: int) -> BitVecRef:
 
 
 def lemmas() -> Iterator[tuple[str, BoolRef]]:
-    """That `near` is what it has to be, for each number of fraction bits of a product."""
-    use_width(68)
-    n = z3.BitVec("n", W)
-    rounded = {k: up(absolute(n), k) for k in (6, 16)}
-    for k, it in rounded.items():
-        is_it = near(n, k) == z3.If(n < 0, -it, it)
-        yield "NEAR", z3.Implies(z3.And(n < N(1 << 64), n > N(-(1 << 64))), is_it)
+    """That `near` is what it says, for the numbers of fraction bits of products."""
+    n = z3.Int("n")
+    size = z3.If(n < 0, -n, n)
+    for k in (6, 16):
+        rounded = (2 * size + (1 << k)) / (1 << k + 1)
+        shifted = (n + (1 << k - 1) - z3.If(n < 0, 1, 0)) / (1 << k)
+        yield f"NEAR of {k} bits", shifted == z3.If(n < 0, -rounded, rounded)
 
 
 class Products:

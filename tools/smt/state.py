@@ -20,7 +20,7 @@ class State(NamedTuple):
     came to each block."""
 
     block: str
-    index: int
+    at: int
     before: str
     names: dict[str, Value]
     memory: dict[str, "Object"]
@@ -29,7 +29,7 @@ class State(NamedTuple):
 
     def copy(self) -> State:
         copies = dict(self.names), dict(self.memory), list(self.conditions), dict(self.visits)
-        return State(self.block, self.index, self.before, *copies)
+        return State(self.block, self.at, self.before, *copies)
 
 
 class Goals:

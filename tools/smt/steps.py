@@ -116,7 +116,7 @@ def shift(machine: Machine, it: Instruction, state: State) -> Value:
     wrong = [z3.UGE(by, x.size()), *(back[flag] != x for flag in sorted(flags))]
     if is_constant(by) and not is_constant(x):
         number, greatest = by.as_long(), known.greatest(x)
-        if it.op == "shl" and greatest << number < 1 << x.size():
+        if it.op == "shl" and number < x.size() and greatest << number < 1 << x.size():
             known.keep(bits, greatest << number)
         if it.op == "lshr":
             known.keep(bits, greatest >> number)
@@ -208,11 +208,6 @@ def insert(machine: Machine, it: Instruction, state: State) -> Value:
 # ---------------------------------------------------------------- addresses
 
 
-def is_null(address: Address) -> BoolRef:
-    """No object is at address zero, and none ends there."""
-    return z3.BoolVal(False) if address.object is not None else address.offset == 0
-
-
 def compare_addresses(machine: Machine, kind: str, a: Address, b: Address, state: State) -> Number:
     """Compares addresses of one object by their offsets, and of two objects as numbers."""
     poison = any_of(a.poison, b.poison)
@@ -268,7 +263,8 @@ def element(machine: Machine, text: str, state: State) -> Address:
         poison = any_of(poison, index.poison)
         # Neither the product with the size of an element nor the sum wraps.
         if size > 1:
-            wrong.append(z3.Or(number >= (1 << 63) // size, number < -(1 << 63) // size))
+            most, least = ((1 << 63) - 1) // size, -((1 << 63) // size)
+            wrong.append(z3.Or(number > most, number < least))
         wrong.append(overflows("add", distance, number * size, True))
         distance = distance + number * size
     offset = z3.simplify(base.offset + distance)
@@ -310,7 +306,7 @@ def store(machine: Machine, it: Instruction, state: State) -> None:
 def allocate(machine: Machine, it: Instruction, state: State) -> Value:
     type_, align = split_commas(it.text)
     name = machine.name("%alloca")
-    state.memory[name] = Cells((None,) * size_of(type_), aligned([align]))
+    state.memory[name] = machine.owned[name] = Cells((None,) * size_of(type_), aligned([align]))
     return Address(name, constant(0))
 
 
@@ -345,6 +341,13 @@ def intrinsic(machine: Machine, it: Instruction, state: State) -> Value | None:
     if not found:
         raise Unsupported(text)
     if found[1].startswith(intrinsics.IGNORED):
+        return None
+    if found[1].startswith("lifetime"):
+        # Before its life and after it, an object is not there.
+        name = str(address_of(machine.value("ptr", found[2].split()[-1], state)).object)
+        state.memory.pop(name, None)
+        if "start" in found[1]:
+            state.memory[name] = machine.owned[name]
         return None
     values = [machine.argument(argument, state) for argument in split_commas(found[2])]
     result = intrinsics.call(machine, found[1], type_, values, state)
