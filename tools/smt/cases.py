@@ -218,12 +218,12 @@ case("delta_sum", "terms: terms", "i64", "delta_sum(terms).to_bits()",
      lambda p, terms: terms.all(64))
 case("checked_delta_sum", "terms: terms", "?i64",
      "checked_delta_sum(terms).map(F48Dot16::to_bits)", lambda p, terms: checked(64, S(terms.all(128))))
-# `Some(n)` as 2 n + 1, and 2 if that does not fit.
+# Of `Some`, the lower 100 bits, which have to be all, below a bit that says `Some`.
 case("vary", "x: i16, terms: terms", "i128",
-     "match vary(FWord::new(x), terms) { None => 0, Some(it) if it >> 126 == it >> 127 =>"
-     " it << 1 | 1, Some(_) => 2 }",
-     lambda p, x, terms: wrap(128, z3.If(fits(64, S(terms.all(128))), 2 * (
-         S(x) * 65536 + S(terms.all(128))) + 1, N(0))))
+     "match vary(FWord::new(x), terms) { None => 0, Some(it) if it >> 99 == it >> 127 =>"
+     " it & ((1 << 100) - 1) | 1 << 126, Some(_) => 1 }",
+     lambda p, x, terms: z3.If(fits(64, S(terms.all(128))), z3.Concat(z3.BitVecVal(
+         1 << 26, 28), wrap(100, S(x) * 65536 + S(terms.all(128)))), z3.BitVecVal(0, 128)))
 
 # ---------------------------------------------------------------- matrices and points
 ENTRIES = "xx yx xy yy dx dy".split()

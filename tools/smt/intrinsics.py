@@ -13,7 +13,7 @@ from ir import width_of
 from state import State
 
 from values import (
-    NO, Number, Unsupported, Value, address_of, any_of, bit_of, constant, extend, fold, is_constant,
+    Number, Unsupported, Value, address_of, any_of, bit_of, constant, extend, fold, is_constant,
     number_of,
 )  # fmt: skip
 

@@ -10,12 +10,11 @@ from typing import NamedTuple, Union
 import z3
 from z3 import BitVecRef
 
-from ir import Module, array_of, size_of, split_commas, stored_size, take_type, width_of
+from ir import Module, array_of, size_of, split_commas, stored_size, take_type
 from state import Goals, State
 
 from values import (
-    NO, YES, Address, Ended, Number, Unsupported, Value,
-    address_of, any_of, choose, constant, fold, is_constant, number_of,
+    YES, Address, Number, Unsupported, Value, any_of, choose, constant, fold, is_constant,
 )  # fmt: skip
 
 

@@ -25,7 +25,7 @@ from execution import End, Machine
 from memory import Slice
 from rules import Products, Sums, Text, use_width
 from state import Goals
-from values import Unsupported, constant, is_constant, number_of
+from values import constant, number_of
 
 # How long the solver may think about one goal, in seconds.
 TIME = 300
