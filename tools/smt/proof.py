@@ -53,7 +53,8 @@ class Proof:
         # No number of a rule has as many bits.
         has_64 = case.has("i64", "u64", "room", "bytes")
         has_128 = case.has("i128", "terms") or "i128" in case.returns
-        use_width(200 if has_128 else 90 if has_64 else 68)
+        of_32 = 64 if case.name.startswith("Matrix") else 68
+        use_width(200 if has_128 else 90 if has_64 else of_32)
 
     def run(self) -> None:
         """Proves the function, or raises why not."""

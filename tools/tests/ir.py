@@ -1,0 +1,94 @@
+"""The reader of the second proof finds what is undefined in LLVM's IR, and nothing else. Each row is
+run in one process, by the Python that has the solver."""
+
+import json
+import pathlib
+import subprocess
+import unittest
+
+TOOL = pathlib.Path(__file__).resolve().parents[1] / "smt"
+
+# The last instruction of a function of x and y, and what comes before it, if it is undefined or
+# poison for some argument; and a control, which is neither.
+ROWS = """\
+add nsw i32 %x, %y | add i32 %x, %y
+sub nuw i32 %x, %y | sub i32 %x, %y
+mul nsw i32 %x, 3 | mul i32 %x, 3
+mul nuw i32 %x, %y | mul i32 %x, %y
+shl i32 %x, %y | shl i32 %x, 31
+shl nuw i32 %x, 1 | shl i32 %x, 1
+lshr exact i32 %x, 1 | lshr i32 %x, 1
+or disjoint i32 %x, 1 | or i32 %x, 1
+udiv i32 %x, %y | udiv i32 %x, 7
+udiv exact i32 %x, 7 | udiv i32 %x, 1
+sdiv i32 %x, -1 | sdiv i32 %x, -2
+srem i32 %x, -1 | srem i32 %x, 3
+select i1 true, i32 poison, i32 %x | select i1 false, i32 poison, i32 %x
+add i32 undef, %x | freeze i32 undef
+call i32 @llvm.abs.i32(i32 %x, i1 true) | call i32 @llvm.abs.i32(i32 %x, i1 false)
+call range(i32 0, 5) i32 @same(i32 %x) | call range(i32 7, 8) i32 @seven(i32 %x)
+call i32 @same(i32 noundef poison) | call i32 @seven(i32 poison)
+call noundef i32 @small(i32 %x) | call noundef i32 @same(i32 %x)
+%a = trunc nuw i32 %x to i8; zext i8 %a to i32 | %a = trunc i32 %x to i8; zext i8 %a to i32
+%a = trunc i32 %x to i8; zext nneg i8 %a to i32 | %a = trunc i32 %x to i8; sext i8 %a to i32
+%p = alloca i32, align 4; load i32, ptr %p, align 4 | %p = alloca i32, align 4; \
+store i32 %x, ptr %p, align 4; load i32, ptr %p, align 4
+%p = alloca i32, align 2; store i32 %x, ptr %p, align 4; load i32, ptr %p, align 2 | \
+%p = alloca i32, align 2; store i32 %x, ptr %p, align 2; load i32, ptr %p, align 2
+%p = alloca i64, align 8; store i64 0, ptr %p, align 8; %q = getelementptr i8, ptr %p, i64 6; \
+load i32, ptr %q, align 1 | %p = alloca i64, align 8; store i64 0, ptr %p, align 8; \
+%q = getelementptr i8, ptr %p, i64 4; load i32, ptr %q, align 4
+%c = icmp samesign ult i32 %x, %y; zext i1 %c to i32 | %c = icmp ult i32 %x, %y; zext i1 %c to i32
+%c = icmp ult i32 %x, %y; call void @llvm.assume(i1 %c); add i32 0, 0 | \
+%c = icmp eq i32 %x, %x; call void @llvm.assume(i1 %c); add i32 0, 0"""
+
+# Prints the rows of which a goal can be met, or whose result can be poison.
+RUN = """
+import json, sys, z3
+from arithmetic import Arithmetic
+from execution import Machine
+from ir import Module
+from state import Goals
+from values import Number
+
+HELPERS = '''
+define i32 @same(i32 %x) {
+start:
+  ret i32 %x
+}
+define i32 @seven(i32 %x) {
+start:
+  ret i32 7
+}
+define range(i32 0, 5) i32 @small(i32 %x) {
+start:
+  ret i32 %x
+}
+'''
+
+def is_undefined(row):
+    *before, last = row.split("; ")
+    lines = "\\n".join(f"  {it}" for it in [*before, f"%r = {last}", "ret i32 %r"])
+    text = f"{HELPERS}define i32 @f(i32 %x, i32 %y) {{\\nstart:\\n{lines}\\n}}\\n"
+    arithmetic, goals = Arithmetic(), []
+    machine = Machine(Module(text), arithmetic, Goals(lambda why, it: goals.append(z3.And(it))))
+    arguments = [Number(z3.BitVec(it, 32)) for it in "xy"]
+    for end in machine.run("@f", arguments, {}, []):
+        goals.append(z3.And([*end.conditions, end.value.poison]))
+    solver = z3.Solver()
+    solver.add(z3.Or(goals), *arithmetic.facts)
+    return solver.check() == z3.sat
+
+print(json.dumps([it for it in json.load(sys.stdin) if is_undefined(it)]))
+"""
+
+
+class Reader(unittest.TestCase):
+    def test_undefined_and_controls(self):
+        rows = [tuple(line.split(" | ")) for line in ROWS.splitlines()]
+        command = ["/usr/bin/python3", "-B", "-c", RUN]
+        given = json.dumps([it for row in rows for it in row])
+        done = subprocess.run(command, cwd=TOOL, input=given, capture_output=True, text=True)
+        if "No module named 'z3'" in done.stderr:
+            raise unittest.SkipTest("/usr/bin/python3 has no z3")
+        self.assertEqual(json.loads(done.stdout), [row for row, _ in rows], done.stderr)
