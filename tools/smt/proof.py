@@ -90,11 +90,10 @@ class Proof:
         if not case.is_relation:
             expected = case.rule(products, *of_rule)
             expected = z3.ZeroExt(result.size() - expected.size(), expected)
-            parts = range(0, result.size(), 32 if result.size() == 128 else result.size())
-            last = min(result.size(), 32 if result.size() == 128 else result.size()) - 1
-            return [
-                z3.Extract(i + last, i, expected) == z3.Extract(i + last, i, result) for i in parts
-            ]
+            # Both numbers of a pair, and whether they are there, are goals of their own.
+            size = 32 if case.returns == "?u64" else result.size()
+            parts = [(i + size - 1, i) for i in range(0, result.size(), size)]
+            return [z3.Extract(*it, expected) == z3.Extract(*it, result) for it in parts]
         if case.has("room"):
             memory = end.memory if end else given.memory
             after = [it for name, it in memory.items() if name in given.memory]

@@ -101,7 +101,8 @@ def up(n: BitVecRef, k: int) -> BitVecRef:
 def near(n: BitVecRef, k: int) -> BitVecRef:
     """n / 2^k, rounded "half away from zero". By the lemma NEAR it has the sign of n, and its
     magnitude is floor(|n| / 2^k + 1/2)."""
-    return (n + (1 << k - 1) - z3.If(n < 0, N(1), N(0))) >> k
+    less = n >> W - 1  # -1 if n is negative, and else 0
+    return (n + (1 << k - 1) + less) >> k
 
 
 def lemmas() -> Iterator[tuple[str, BoolRef]]:
