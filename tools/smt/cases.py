@@ -79,7 +79,7 @@ def of_one(T: str, w: int, f: int) -> None:
     def both(name: str, checked_name: str, body: str, calc: Rule) -> None:
         case(name, f"x: {i}", i, body, lambda p, x: wrap(w, calc(S(x))))
         if checked_name:
-            case(f"{T}::{checked_name}", f"x: {i}", "?" + i, f"{T}::from_bits(x).{checked_name}(){bits}",
+            case(f"{T}::{checked_name}", f"x: {i}", "?" + i, f"{x}.{checked_name}(){bits}",
                  lambda p, x: checked(w, calc(S(x))))
 
     both(f"-{T}", "checked_neg", f"(-{x}).to_bits()", lambda n: -n)
@@ -129,7 +129,9 @@ relation("Fixed::checked_mul_div", "x: i32, a: i32, c: i32", "?i32",
 # ---------------------------------------------------------------- conversions
 
 
-def narrowing(T: str, name: str, k: int, to: int, out: int, of: str = "", only: bool = False) -> None:
+def narrowing(
+    T: str, name: str, k: int, to: int, out: int, of: str = "", only: bool = False
+) -> None:
     """To `k` fewer fraction bits, "half up. Wraps" to `to` bits, in a type of `out` bits."""
     w = {it: width for it, width, _ in FORMATS}[T]
     x, bits, map_ = f"{T}::from_bits(x)", ".to_bits()" * bool(of), f".map({of}::to_bits)" * bool(of)
@@ -217,7 +219,8 @@ case("DeltaSum +=", "x: i32, y: i32, s: i32, t: i32", "i64",
 case("delta_sum", "terms: terms", "i64", "delta_sum(terms).to_bits()",
      lambda p, terms: terms.all(64))
 case("checked_delta_sum", "terms: terms", "?i64",
-     "checked_delta_sum(terms).map(F48Dot16::to_bits)", lambda p, terms: checked(64, S(terms.all(128))))
+     "checked_delta_sum(terms).map(F48Dot16::to_bits)",
+     lambda p, terms: checked(64, S(terms.all(128))))
 # Of `Some`, the lower 100 bits, which have to be all, below a bit that says `Some`.
 case("vary", "x: i16, terms: terms", "i128",
      "match vary(FWord::new(x), terms) { None => 0, Some(it) if it >> 99 == it >> 127 =>"
@@ -230,7 +233,8 @@ ENTRIES = "xx yx xy yy dx dy".split()
 entries = lambda of: ", ".join(f"{of}{it}: i32" for it in ENTRIES)
 matrix = lambda of: "Matrix::from_elements([{}])".format(
     ", ".join(f"Fixed::from_bits({of}{it})" for it in ENTRIES))
-SPOTS = ["Point::new(Fixed::from_bits({}), Fixed::from_bits({}))".format(*it) for it in ("xy", "st")]
+SPOTS = [f"Point::new(Fixed::from_bits({x}), Fixed::from_bits({y}))" for x, y in (
+    ("x", "y"), ("s", "t"))]
 PAIR = "((it.{}.to_bits() as u32 as u64) << 32) | it.{}.to_bits() as u32 as u64"
 BOTH, ROWS = PAIR.format("x", "y"), {"x": ("xx", "xy", "dx"), "y": ("yx", "yy", "dy")}
 FROM = "Fixed::from_bits(x), Fixed::from_bits(y)"
@@ -257,11 +261,12 @@ all_fit = lambda *n: z3.And([fits(32, it) for it in n])
 given = entries("a") + ", x: i32, y: i32"
 for i, axis in enumerate("xy"):
     case(f"Matrix::transform, {axis}", given, "i32",
-         f"{matrix('a')}.transform({FROM}).{i}.to_bits()", lambda p, *v, i=i: wrap(32, moved(p, *v)[i]))
+         f"{matrix('a')}.transform({FROM}).{i}.to_bits()",
+         lambda p, *v, i=i: wrap(32, moved(p, *v)[i]))
     case(f"Matrix * Point, {axis}", given, "i32", f"({matrix('a')} * {SPOTS[0]}).{axis}.to_bits()",
          lambda p, *v, i=i: wrap(32, moved(p, *v)[i]))
 case("Matrix::checked_transform", given, "?u64",
-     f"{matrix('a')}.checked_transform({FROM}).map(|(x, y)| {{ let it = Point::new(x, y); {BOTH} }})",
+     f"{matrix('a')}.checked_transform({FROM}).map(|(x, y)| Point::new(x, y)).map(|it| {BOTH})",
      lambda p, *v: some(all_fit(*moved(p, *v)), two(*moved(p, *v))))
 given = entries("a") + ", " + entries("b")
 for name in ENTRIES:
@@ -284,7 +289,8 @@ def of_points(sign: str, calc: Rule) -> None:
         calc(p, x, s, z3.Extract(63, 32, it)), calc(p, y, t, z3.Extract(31, 0, it)))
     for end, body in (("", "let it = {} {} {};"), ("=", "let mut it = {}; it {}= {};")):
         rust = "{{ " + body + " {} }}"
-        relation(f"Point {sign}{end}" + " Point" * (not end), "x: i32, y: i32, s: i32, t: i32", "u64",
+        relation(f"Point {sign}{end}" + " Point" * (not end),
+                 "x: i32, y: i32, s: i32, t: i32", "u64",
                  rust.format(SPOTS[0], sign, SPOTS[1], BOTH), both)
         if sign in "*/":
             relation(f"Point {sign}{end} T", "x: i32, y: i32, s: i32", "u64",
@@ -355,7 +361,8 @@ Offset16 2 u16 Offset16::new(x) .to_u32()
 Offset24 3 u32 Offset24::new(Uint24::new(x)) .to_u32()
 Offset32 4 u32 Offset32::new(x) .to_u32()
 Nullable::<Offset16> 2 u16 Nullable::<Offset16>::from_raw(x.to_be_bytes()) .offset().to_u32()
-Nullable::<Offset24> 3 u32 Nullable::<Offset24>::from_raw(Uint24::new(x).to_be_bytes()) .offset().to_u32()
+Nullable::<Offset24> 3 u32 Nullable::<Offset24>::from_raw(Uint24::new(x).to_raw()) \
+    .offset().to_u32()
 Nullable::<Offset32> 4 u32 Nullable::<Offset32>::from_raw(x.to_be_bytes()) .offset().to_u32()
 Tag 4 u32 Tag::from_u32(x) .to_u32()
 NameId 2 u16 NameId::new(x) .to_u16()
@@ -388,7 +395,8 @@ def bytes_of(kind: Kind) -> None:
     case(f"BigEndian::<{T}>::get", given, result, f"{field}::new({array}).get(){get}",
          lambda p, *v: extended(v))
     case(f"BigEndian::<{T}>::set", f"{given}, x: {i}", f"[{size}]",
-         f"{{ let mut field = {field}::new({array}); field.set({make}); Scalar::to_raw(field.get()) }}",
+         f"{{ let mut field = {field}::new({array}); field.set({make});"
+         " Scalar::to_raw(field.get()) }",
          lambda p, *v: big_endian(clip(v[-1]), size))
     case(f"{T}::read_at", "text: bytes, at: u64", f"?{result}",
          f"<{value} as Scalar>::read_at(text, at as usize).map(|it| it{get})",
@@ -411,7 +419,8 @@ def written(text: Text, n: Any, at: Any, size: int, result: Any, after: Text) ->
     expected = text.byte(place)
     for i, it in enumerate(stored(n, size)):
         expected = z3.If(z3.And(has, place == at + i), it, expected)
-    return z3.And(result == B(has), z3.Implies(z3.ULT(place, text.length), after.byte(place) == expected))
+    is_kept = z3.Implies(z3.ULT(place, text.length), after.byte(place) == expected)
+    return z3.And(result == B(has), is_kept)
 
 
 for kind in SCALARS:
@@ -547,7 +556,8 @@ case("Tag < Tag", "x: u32, y: u32", "bool", "Tag::from_u32(x) < Tag::from_u32(y)
 case("Tag::cmp", "x: u32, y: u32", "i8", "Tag::from_u32(x).cmp(&Tag::from_u32(y)) as i8",
      lambda p, x, y: ordered(x, y))
 case("Tag::partial_cmp", "x: u32, y: u32", "i8",
-     "Tag::from_u32(x).partial_cmp(&Tag::from_u32(y)).unwrap() as i8", lambda p, x, y: ordered(x, y))
+     "Tag::from_u32(x).partial_cmp(&Tag::from_u32(y)).unwrap() as i8",
+     lambda p, x, y: ordered(x, y))
 case("Tag::into_bytes", "x: u32", "[4]", "Tag::from_u32(x).into_bytes()",
      lambda p, x: big_endian(x, 4))
 case("Tag::as_bytes", "x: u32", "[4]", "*Tag::from_u32(x).as_bytes()",

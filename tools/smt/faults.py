@@ -23,10 +23,11 @@ NUMBERED = re.compile(r"!\d+|#\d+|@(?:alloc_|anon\.)\w+(?:\.\d+)*|17h[0-9a-f]{16
 
 def edits(tree: Path) -> list[Any]:
     """Returns the mutants as edits of the Rust, as the comparison of MIR finds their places."""
-    sys.path.append(str(Path(__file__).parents[1] / "mir"))
-    mir, packages = import_module("mutants"), import_module("packages")
+    tools = Path(__file__).parents[1]
+    sys.path += [str(tools / "mir"), str(tools)]
+    mir, packages, texts = map(import_module, ("mutants", "packages", "edits"))
     sources = packages.Sources(tree)
-    return [mir.Edit(it, sources) for it in sorted(tree.glob("crates/*/must-fail/*.edit"))]
+    return [mir.Edit(it, sources, tree) for it in texts.edits(tree)]
 
 
 def bodies(ir: str) -> dict[str, str]:

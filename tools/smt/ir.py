@@ -16,9 +16,9 @@ METADATA = re.compile(r", !([\w.]+) (!\d+|!\{\})$")
 # What stands before a type or a value, and of which no goal is made: conventions of calls, what is
 # promised of memory behind a pointer, and how a name is linked.
 PASSED_OVER = set(
-    "noalias captures readonly readnone writeonly nofree writable initializes dereferenceable "
-    "dead_on_unwind dead_on_return sret returned immarg signext zeroext fastcc internal hidden dso_local "
-    "unnamed_addr local_unnamed_addr".split()
+    "noalias captures readonly readnone writeonly nofree writable initializes dereferenceable sret "
+    "dead_on_unwind dead_on_return returned immarg signext zeroext fastcc internal hidden "
+    "dso_local unnamed_addr local_unnamed_addr".split()
 )
 ENDS = set("true false null undef poison zeroinitializer getelementptr inttoptr ptr void".split())
 WORD = re.compile(r"align (\d+)(?:\s+|$)|([a-z_]+)(?:\(((?:[^()]|\([^()]*\))*)\))?(?:\s+|$)")

@@ -37,9 +37,9 @@ class Head:
 
 
 class Loops:
-    """A loop ends, because each turn goes on, and it stores nothing. Its invariant, before a turn of s terms of which k are done: s more
-    are there; the address is that of term k; each other name has the sum of the first k terms, in
-    its width, or counts the turns."""
+    """A loop ends, because each turn goes on, and it stores nothing. Its invariant, before a turn
+    of s terms of which k are done: s more are there; the address is that of term k; each other name
+    has the sum of the first k terms, in its width, or counts the turns."""
 
     def __init__(self, goals: Goals, sums: Sums, text: str, count: BitVecRef) -> None:
         self.goals, self.sums, self.text, self.count = goals, sums, text, count

@@ -30,7 +30,7 @@ COUNTS = [
     ("tests/", ".rs", "#[test]\n", 203),
     ("compare/tests/", ".rs", "#[test]\n", 33),
     ("crates/", ".rt", "#[test]\n", 152),
-    ("tools/tests/", ".py", "\n    def test_", 23),
+    ("tools/tests/", ".py", "\n    def test_", 22),
     ("tests/", ".rs", "#[ignore", 0),
     ("compare/tests/", ".rs", "#[ignore", 0),
     ("tests/", ".rs", "#[cfg", 11),
