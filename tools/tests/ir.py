@@ -27,7 +27,7 @@ select i1 true, i32 poison, i32 %x | select i1 false, i32 poison, i32 %x
 add i32 undef, %x | freeze i32 undef
 call i32 @llvm.abs.i32(i32 %x, i1 true) | call i32 @llvm.abs.i32(i32 %x, i1 false)
 call range(i32 0, 5) i32 @same(i32 %x) | call range(i32 7, 8) i32 @seven(i32 %x)
-call i32 @same(i32 noundef poison) | call i32 @seven(i32 poison)
+call i32 @seven(i32 noundef poison) | call i32 @seven(i32 poison)
 call noundef i32 @small(i32 %x) | call noundef i32 @same(i32 %x)
 %a = trunc nuw i32 %x to i8; zext i8 %a to i32 | %a = trunc i32 %x to i8; zext i8 %a to i32
 %a = trunc i32 %x to i8; zext nneg i8 %a to i32 | %a = trunc i32 %x to i8; sext i8 %a to i32
@@ -38,6 +38,9 @@ store i32 %x, ptr %p, align 4; load i32, ptr %p, align 4
 %p = alloca i64, align 8; store i64 0, ptr %p, align 8; %q = getelementptr i8, ptr %p, i64 6; \
 load i32, ptr %q, align 1 | %p = alloca i64, align 8; store i64 0, ptr %p, align 8; \
 %q = getelementptr i8, ptr %p, i64 4; load i32, ptr %q, align 4
+%p = alloca i64, align 8; store i64 0, ptr %p, align 8; %q = getelementptr i8, ptr %p, i64 2; \
+load i32, ptr %q, align 4 | %p = alloca i64, align 8; store i64 0, ptr %p, align 8; \
+%q = getelementptr i8, ptr %p, i64 2; load i32, ptr %q, align 2
 %c = icmp samesign ult i32 %x, %y; zext i1 %c to i32 | %c = icmp ult i32 %x, %y; zext i1 %c to i32
 %c = icmp ult i32 %x, %y; call void @llvm.assume(i1 %c); add i32 0, 0 | \
 %c = icmp eq i32 %x, %x; call void @llvm.assume(i1 %c); add i32 0, 0"""
