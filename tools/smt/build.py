@@ -20,6 +20,7 @@ use super::*;
 """
 OPTIONS = """--edition 2024 --crate-type cdylib --crate-name kernel --cap-lints allow
     -C opt-level=2 -C codegen-units=1 -C panic=abort -C no-vectorize-loops -C no-vectorize-slp
+    -C llvm-args=-unroll-runtime=false
     --emit llvm-ir,link""".split()
 
 
