@@ -14,7 +14,6 @@ import sys
 import tempfile
 import time
 from pathlib import Path
-from typing import NamedTuple
 
 RUSTC = "1.95"
 ROOT = Path(__file__).resolve().parents[2]
@@ -25,20 +24,15 @@ except ModuleNotFoundError:
     print(f"{sys.executable} has no z3: Debian's package python3-z3 has it, for /usr/bin/python3")
     sys.exit(1)
 
-import faults
 import arithmetic
+import faults
 import rules
+import texts
 from build import build
-from cases import CASES, Case
+from cases import CASES
 from ir import Module
 from proof import Proof, Refused, Unknown
 from values import Unsupported
-
-
-class Verdict(NamedTuple):
-    case: Case
-    fault: str
-    seconds: float
 
 
 def prove(proof: Proof, turns: int) -> str:
@@ -55,25 +49,24 @@ def prove(proof: Proof, turns: int) -> str:
     return ""
 
 
-def run(
-    tree: Path, cases: list[Case], checked: bool, goals: Path | None, turns: int
-) -> list[Verdict]:
-    verdicts, agreed = [], 0
-    with tempfile.TemporaryDirectory() as room:
-        built = build(tree, Path(room), cases, checked)
-        module, library = Module(built.ir), ctypes.CDLL(str(built.library))
-        for case in cases:
-            began, proof = time.process_time(), Proof(module, case, library, goals)
-            verdict = Verdict(case, prove(proof, turns), time.process_time() - began)
-            verdicts.append(verdict)
-            shown = verdict.fault or "proved"
-            agreed += proof.agreed
-            print(
-                f"{case.name:40} {proof.goals:3} goals {verdict.seconds:7.2f} s  {shown}",
-                flush=True,
-            )
+def run(options: argparse.Namespace, room: Path) -> list[str]:
+    """Proves the functions whose names have a pattern, and returns why each is not, or nothing."""
+    found, agreed = [], 0
+    cases = [it for it in CASES if re.search(options.only, it.name)]
+    built = build(options.tree, room, cases, options.checked)
+    module, library = Module(built.ir), ctypes.CDLL(str(built.library))
+    for case in cases:
+        began, proof = time.process_time(), Proof(module, case, library, options.goals)
+        found.append(prove(proof, options.turns))
+        seconds, agreed = time.process_time() - began, agreed + proof.agreed
+        shown = f"{proof.goals:3} goals {seconds:7.2f} s  {found[-1] or 'proved'}"
+        print(f"{case.name:40} {shown}", flush=True)
+    for name in texts.FRACTION_BITS:
+        if re.search(options.only, f"{name}::to_decimal"):
+            found.append(texts.fault(library, name))
+            print(f"{name + '::to_decimal':40} all 65536 values  {found[-1] or 'proved'}")
     print(f"the reader agrees with the processor on {agreed} arguments")
-    return verdicts
+    return found
 
 
 def main() -> int:
@@ -94,13 +87,12 @@ def main() -> int:
         if solver.check() != z3.unsat:
             print(f"the lemma {name} is not proved")
             return 1
-    cases = [it for it in CASES if re.search(options.only, it.name)]
-    verdicts = run(options.tree, cases, options.checked, options.goals, options.turns)
-    proved = [it for it in verdicts if not it.fault]
-    build = "checked" if options.checked else "release"
-    count = f"{len(proved)} of {len(cases)} functions proved in the {build} build"
+    with tempfile.TemporaryDirectory() as room:
+        found = run(options, Path(room))
+    kind, proved = "checked" if options.checked else "release", found.count("")
+    count = f"{proved} of {len(found)} functions proved in the {kind} build"
     print(f"{count}, {time.process_time():.0f} s of processor")
-    return int(len(proved) < len(cases))
+    return int(proved < len(found))
 
 
 if __name__ == "__main__":

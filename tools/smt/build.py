@@ -7,6 +7,7 @@ import subprocess
 from pathlib import Path
 from typing import NamedTuple
 
+import texts
 from cases import Case
 
 # How a slice of unknown length is passed: the type of its elements.
@@ -76,7 +77,7 @@ def build(tree: Path, room: Path, cases: list[Case], checked: bool) -> Built:
     checks of overflow and debug assertions."""
     shutil.copytree(tree / "src", room / "src")
     with (room / "src/lib.rs").open("a") as lib:
-        lib.write(HEAD + "".join(map(wrapper, cases)) + "}\n")
+        lib.write(HEAD + "".join(map(wrapper, cases)) + texts.WRAPPERS + "}\n")
     checks = [
         f"-C{it}={'on' if checked else 'off'}" for it in ("overflow-checks", "debug-assertions")
     ]
