@@ -26,7 +26,7 @@ RULES = {
     "take, return or walk over texts or arrays of any length": SLICES,
     "are laws, of functions that have rows": r"^\w+/laws",
     "are not exported": r"NOT EXPORTED",
-    "call code of the caller's type": r"\bFn|<('a, )?(const )?[A-Z]\b(?!: u32)|: pub trait",
+    "call code of the caller's type": r"\bFn|<('a, )?(const )?[A-EG-Z]\b|: pub trait",
     "take no argument": r"fn \w+\(\)",
 }
 IN_A_ROW = "are in a row, and so proved"
