@@ -658,20 +658,21 @@ fn checked_images_and_products() {
     let (mut kept, mut refused) = (0, 0);
     for n in 0..values.len().pow(5) {
         let [p, q, x, y, d] = [0, 1, 2, 3, 4].map(|place| values[n / 9usize.pow(place) % 9]);
-        let a = Matrix::from_elements([p, q, q, x, d, y].map(fixed));
+        let r = q.wrapping_neg();
+        let a = Matrix::from_elements([p, q, r, x, d, y].map(fixed));
         let found = a.checked_transform(fixed(x), fixed(y));
-        let right = form(p, x, q, y, d).zip(form(q, x, x, y, y));
+        let right = form(p, x, r, y, d).zip(form(q, x, x, y, y));
         assert_eq!(found, right, "{p} {q} {x} {y} {d}");
         if let Some(image) = found {
             assert_eq!(image, a.transform(fixed(x), fixed(y)));
         }
         let b = Matrix::from_elements([x, d, y, p, q, d].map(fixed));
         let right = [
-            form(p, x, q, d, 0),
+            form(p, x, r, d, 0),
             form(q, x, x, d, 0),
-            form(p, y, q, p, 0),
+            form(p, y, r, p, 0),
             form(q, y, x, p, 0),
-            form(p, q, q, d, d),
+            form(p, q, r, d, d),
             form(q, q, x, d, y),
         ];
         let right = right.iter().copied().collect::<Option<Vec<Fixed>>>();
