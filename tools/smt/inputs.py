@@ -106,9 +106,12 @@ def chosen(case: Case, chance: random.Random) -> Given:
             given[name] = bytes(chance.choices(letters, k=count))
             continue
         width = width_of(type_)
-        edge = chance.choice([0, 1 << width - 1, 1 << width // 2, 1 << chance.randrange(width)])
+        half = 1 << width // 2
+        edge = chance.choice([0, 1, half >> 1, half, 1 << width - 1, 1 << chance.randrange(width)])
         short = chance.getrandbits(chance.randrange(1, width + 1))
-        pick = chance.choice([edge + chance.randrange(-3, 4), short, chance.getrandbits(width)])
+        pick = chance.choice(
+            [edge + chance.choice([-1, 0, 0, 1]), short, chance.getrandbits(width)]
+        )
         pick = chance.randrange(8) if name == "at" else pick
         given[name] = (pick if chance.random() < 0.5 else -pick) & (1 << width) - 1
     return given
