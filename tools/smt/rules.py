@@ -45,8 +45,8 @@ def B(condition: BoolRef) -> BitVecRef:
 
 
 def fits(bits: int, n: BitVecRef) -> BoolRef:
-    """-2^(bits-1) <= n < 2^(bits-1)."""
-    return z3.And(N(-(1 << bits - 1)) <= n, n < N(1 << bits - 1))
+    """-2^(bits-1) <= n < 2^(bits-1): n + 2^(bits-1), unsigned, is less than 2^bits."""
+    return z3.ULT(n + N(1 << bits - 1), N(1 << bits))
 
 
 def fits_unsigned(bits: int, n: BitVecRef) -> BoolRef:
