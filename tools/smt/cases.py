@@ -567,9 +567,9 @@ case("Tag::eq_bytes", "x: u32, y: u32", "bool",
 # Of `Ok`, the bytes. Of an error, its kind, the byte, and the index or the length.
 ANSWER = """match {} {{
     Ok(tag) => tag as u64,
-    Err(InvalidTag::InvalidLength(n)) => 1 << 60 | n as u64 & 0xFFF_FFFF_FFFF_FFFF,
-    Err(InvalidTag::InvalidByte {{ pos, byte }}) => 2 << 60 | (byte as u64) << 8 | pos as u64,
-    Err(InvalidTag::ByteAfterSpace {{ pos }}) => 3 << 60 | pos as u64,
+    Err(InvalidTag::InvalidLength(n)) => 1 << 60 | n.min((1 << 60) - 1) as u64,
+    Err(InvalidTag::InvalidByte {{ pos, byte }}) => 2 << 60 | (byte as u64) << 48 | pos.min(99) as u64,
+    Err(InvalidTag::ByteAfterSpace {{ pos }}) => 3 << 60 | pos.min(99) as u64,
 }}"""
 case("Tag::validate", LETTERS, "u64", ANSWER.format(f"{TAG}.validate().map(|_| 0u32)"), validated)
 case("Tag::new_checked", "text: bytes", "u64",

@@ -265,7 +265,7 @@ def first_fault(text: Sequence[BitVecRef], after_space: bool) -> BitVecRef:
     answer = z3.BitVecVal(0, 64)
     for index in reversed(range(len(text))):
         it = text[index]
-        invalid = z3.BitVecVal(2 << 60 | index, 64) | z3.ZeroExt(56, it) << 8
+        invalid = z3.BitVecVal(2 << 60 | index, 64) | z3.ZeroExt(56, it) << 48
         late = z3.BitVecVal(3 << 60 | index, 64) if after_space else invalid
         printable = z3.And(U(it) >= 0x20, U(it) <= 0x7E)
         spaced = z3.Or([before == 0x20 for before in text[:index]])
@@ -282,7 +282,7 @@ def validated(p: Products, *text: BitVecRef) -> BitVecRef:
 
 def checked_tag(p: Products, text: Text) -> BitVecRef:
     """ "`Tag::new_checked` takes one to four bytes, and adds spaces"."""
-    answer = z3.BitVecVal(1 << 60, 64) | text.length & (1 << 60) - 1
+    answer = z3.BitVecVal(1 << 60, 64) | z3.Extract(63, 0, low(U(text.length), (1 << 60) - 1))
     for count in range(1, 5):
         given = text.bytes(0, count)
         padded = z3.Concat([*given, *[z3.BitVecVal(0x20, 8)] * (4 - count)])
