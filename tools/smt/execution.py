@@ -84,6 +84,9 @@ class Machine:
     def promised(self, value: Value, attributes: Attributes, state: State) -> Value:
         """`range`, `nonnull` and `align` make another value poison. `noundef` makes poison
         undefined behavior."""
+        if isinstance(value, list):
+            kept = Attributes(noundef=attributes.noundef)
+            return [self.promised(it, kept, state) for it in value]
         if isinstance(value, Number) and attributes.range:
             value = Number(value.bits, any_of(value.poison, out_of(attributes.range, value.bits)))
         if isinstance(value, Address) and attributes.nonnull:
@@ -93,7 +96,7 @@ class Machine:
             if value.object and self.memory.object(value, state).align < attributes.align:
                 wrong = YES
             value = value._replace(poison=any_of(value.poison, z3.simplify(wrong)))
-        if attributes.noundef and not isinstance(value, list):
+        if attributes.noundef:
             self.goals.check("`noundef` of poison", value.poison, state)
         return value
 
@@ -236,7 +239,8 @@ class Machine:
             self.goals.panic(name[-60:], state)
         values = [self.argument(text, state) for text in texts]
         if name in ("@bcmp", "@memcmp"):
-            state.names[it.target] = steps.compare_memory(self, name, values, state)
+            answer = self.promised(steps.compare_memory(self, name, values, state), returns, state)
+            state.names[it.target] = self.described(answer, it, state)
             paths.append(state)
             return
         if name not in self.module.functions:
