@@ -114,9 +114,9 @@ def shift(machine: Machine, it: Instruction, state: State) -> Value:
     bits = x << by if it.op == "shl" else z3.LShR(x, by) if it.op == "lshr" else x >> by
     back = {"nsw": bits >> by, "nuw": z3.LShR(bits, by), "exact": bits << by}
     wrong = [z3.UGE(by, x.size()), *(back[flag] != x for flag in sorted(flags))]
-    if is_constant(by) and not is_constant(x):
+    if is_constant(by) and not is_constant(x) and by.as_long() < x.size():
         number, greatest = by.as_long(), known.greatest(x)
-        if it.op == "shl" and number < x.size() and greatest << number < 1 << x.size():
+        if it.op == "shl" and greatest << number < 1 << x.size():
             known.keep(bits, greatest << number)
         if it.op == "lshr":
             known.keep(bits, greatest >> number)
