@@ -28,7 +28,7 @@ OTHERS = (
 # of its files, and a text.
 COUNTS = [
     ("tests/", ".rs", "#[test]\n", 203),
-    ("compare/tests/", ".rs", "#[test]\n", 33),
+    ("compare/tests/", ".rs", "#[test]\n", 27),
     ("crates/", ".rt", "#[test]\n", 152),
     ("tools/tests/", ".py", "\n    def test_", 22),
     ("tests/", ".rs", "#[ignore", 0),
