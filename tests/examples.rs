@@ -14,7 +14,7 @@ use font_types_proved::{F2Dot14, F48Dot16, Fixed, GlyphId16, Tag, UfWord};
 use font_variations_proved::advances::{store_and_set, varied_by};
 use font_variations_proved::delta_sets::{read_delta, set_sum};
 use font_variations_proved::evaluator::segment_map;
-use font_variations_proved::instances::StoreInstance;
+use font_variations_proved::instances::{StoreInstance, region_count};
 use font_variations_proved::maps::{DeltaSetIndex, read_delta_set_index};
 use font_variations_proved::regions::region_scalar;
 use fonts::{MAP, MAPS, at_the_limits, font, font_of, fvar, hvar, hvar_of_two_axes};
@@ -550,6 +550,7 @@ fn regions_of_many_axes() {
         let subtable = words(&[1, 1, 1, 0, 400]);
         let store = [&words(&[1, 0, 12, 1])[..], &(12 + list.len() as u32).to_be_bytes()].concat();
         let store = [store, list, subtable].concat();
+        assert_eq!((region_count(&store), region_count(&store[..15])), (Some(1), None));
         let mut scalars = [Fixed::ZERO; 1];
         let instance = StoreInstance::new(&store, &coordinates, &mut scalars).unwrap();
         let set = DeltaSetIndex { outer: 0, inner: 0 };
