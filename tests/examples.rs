@@ -451,6 +451,22 @@ fn delta_sets_at_the_count() {
     assert_eq!(read_delta_set_index(&map, 0), Some(set));
 }
 
+// Deltas of four, two and one bytes in the second set: three wide columns and two narrow ones.
+#[test]
+fn wide_and_narrow_columns() {
+    let of_16 = [[-1_i16, 300, i16::MIN].map(i16::to_be_bytes).concat(), vec![0x80, 127]];
+    let (wide, narrow) = ([-1, 70_000, i32::MIN], [-300_i16, i16::MAX]);
+    let of_32 = [wide.map(i32::to_be_bytes).concat(), narrow.map(i16::to_be_bytes).concat()];
+    for (wide, row, deltas) in [
+        (3, of_16.concat(), [-1, 300, -32_768, -128, 127]),
+        (0x8003, of_32.concat(), [-1, 70_000, i32::MIN, -300, 32_767]),
+    ] {
+        let subtable = [words(&[2, wide, 5, 0, 0, 0, 0, 0]), vec![0x55; row.len()], row].concat();
+        let found = [0, 1, 2, 3, 4].map(|column| read_delta(&subtable, 1, column));
+        assert_eq!(found, deltas.map(Some), "{wide:#X}");
+    }
+}
+
 // The first of two encodings that has the character counts, also as glyph 0; format 13 is not read.
 #[test]
 fn characters_in_two_encodings() {

@@ -27,7 +27,7 @@ OTHERS = (
 # comments in tests: a commit that adds or removes one changes its number here. A path, the ending
 # of its files, and a text.
 COUNTS = [
-    ("tests/", ".rs", "#[test]\n", 203),
+    ("tests/", ".rs", "#[test]\n", 204),
     ("compare/tests/", ".rs", "#[test]\n", 27),
     ("crates/", ".rt", "#[test]\n", 152),
     ("tools/tests/", ".py", "\n    def test_", 22),
