@@ -9,6 +9,7 @@ ghost use Rattle.variations.specs.Variations.{HasRegion, IsRegionScalar, HasRow,
 ghost use Rattle.variations.specs.Variations.{word_delta_count, region_index_count, IsNoVariation};
 ghost use Rattle.variations.specs.Variations.{HasNoVaried, HasSet, IsVaried, HasTerm, IsTerm};
 ghost use Rattle.variations.specs.Variations.{IsSetSum, IsNearSetSum, IsNearAdvance, AreScalars};
+ghost use Rattle.variations.specs.Variations.{region_count};
 
 use crate::advances::{at_offset, data_of};
 use crate::delta_sets::{column_in, row_of};
@@ -16,10 +17,13 @@ use crate::maps::{DeltaSetIndex, is_no_variation};
 use crate::regions::region_scalars;
 use font_types::{F2Dot14, F48Dot16, Fixed, Scalar, UfWord};
 
-/// Returns the count of regions in a store, as its list has it: [`StoreInstance::new`] takes as many
-/// scalars at most. Returns `None` if the store has no list of regions.
+/// Returns the count that the list of regions of a store has, or `None` if the store has no list
+/// or the list ends before its count. [`StoreInstance::new`] needs at most as many scalars.
 #[must_use]
 pub fn region_count(store: &[u8]) -> Option<u16>
+    ensures variant { IsSome result
+        ↔ (HasTarget store.now 2 × (4 ≤ length (regions_of store.now))) }
+    ensures value { IfSome result (λ count. count ≡ region_count (regions_of store.now)) }
     ensures enough { IfSome result (λ count. (region : ℕ)
         → HasRegion (regions_of store.now) region → region < count) }
 {

@@ -8,8 +8,8 @@ use super::maps::{DeltaSetIndex, is_no_variation};
 use super::regions::region_scalars;
 use font_types_proved::{F2Dot14, F48Dot16, Fixed, Scalar, UfWord};
 
-/// Returns the count of regions in a store, as its list has it: [`StoreInstance::new`] takes as many
-/// scalars at most. Returns `None` if the store has no list of regions.
+/// Returns the count that the list of regions of a store has, or `None` if the store has no list
+/// or the list ends before its count. [`StoreInstance::new`] needs at most as many scalars.
 #[must_use]
 pub fn region_count(store: &[u8]) -> Option<u16> {
     u16::read_at(at_offset(store, 2)?, 2)
