@@ -1,5 +1,5 @@
-//! Prints the advances of characters, of glyphs by their numbers, and of `all` glyphs, and the deltas
-//! of `metrics`, in an instance of a variable font:
+//! Prints the advances of characters, of glyphs by their numbers, and of `all` glyphs, and the
+//! deltas of `metrics`, in an instance of a variable font:
 //! `cargo run --example instance -- FONT TEXT 36 37 wght=600 wdth=87.5`.
 //!
 //! What is here finds the tables. What reads them and computes coordinates and advances is proved:
@@ -96,8 +96,8 @@ pub fn advance(
     }
 }
 
-/// The advances of all glyphs at these coordinates, by `HVAR`: the scalar of each region is computed
-/// once.
+/// Returns the advances of all glyphs at these coordinates, by `HVAR`. The scalar of each region is
+/// computed once.
 pub fn all_advances(font: &Font<'_>, coordinates: &[F2Dot14]) -> Option<Vec<UfWord>> {
     let hvar = of_version(font, b"HVAR", 1).ok()??;
     let (store, _) = store_and_set(hvar, GlyphId16::new(0))?;

@@ -289,7 +289,8 @@ class Eraser:
         is_public = re.search(r"pub(?! \()", " ".join(before)) or at < self.trait_end
         if is_public and re.search(r"- > (?!.*- > |.*Result )", header):
             self.put(first, "#[must_use]\n")
-        if self.words[self.header] == "{" and self.words[at + 1] != "fmt" and "inline" not in before:
+        has_body = self.words[self.header] == "{"
+        if has_body and self.words[at + 1] != "fmt" and "inline" not in before:
             self.put(first, "#[inline]\n")
 
     def export(self, at):

@@ -568,7 +568,9 @@ case("Tag::eq_bytes", "x: u32, y: u32", "bool",
 ANSWER = """match {} {{
     Ok(tag) => tag as u64,
     Err(InvalidTag::InvalidLength(n)) => 1 << 60 | n.min((1 << 60) - 1) as u64,
-    Err(InvalidTag::InvalidByte {{ pos, byte }}) => 2 << 60 | (byte as u64) << 48 | pos.min(99) as u64,
+    Err(InvalidTag::InvalidByte {{ pos, byte }}) => {{
+        2 << 60 | (byte as u64) << 48 | pos.min(99) as u64
+    }}
     Err(InvalidTag::ByteAfterSpace {{ pos }}) => 3 << 60 | pos.min(99) as u64,
 }}"""
 case("Tag::validate", LETTERS, "u64", ANSWER.format(f"{TAG}.validate().map(|_| 0u32)"), validated)

@@ -1,4 +1,4 @@
-"""The reader of the second proof finds what is undefined in LLVM's IR, and nothing else. Each row is
+"""The reader of the second proof finds what is undefined in LLVM's IR, and nothing else. All rows
 run in one process, by the Python that has the solver."""
 
 import json
