@@ -6,7 +6,7 @@
 /// Definitions of the crate `font_decimal`.
 pub mod font_decimal {
     /// Decimals: an optional `-`, one or more digits, and optionally a point followed by one or more digits. No plus sign,
-    /// exponent or space. This is the project's own textual form of a fixed-point number.
+    /// exponent or space. OpenType has no such form.
     ///
     /// In the order of `crates/font_decimal/specs/Grammar.antt`: [`fraction_text`](mod@Grammar::fraction_text), [`HasParts`](mod@Grammar::HasParts), [`Decimal`](mod@Grammar::Decimal), [`IsNoDecimal`](mod@Grammar::IsNoDecimal), [`Plain`](mod@Grammar::Plain), [`Tidy`](mod@Grammar::Tidy).
     pub mod Grammar {
@@ -138,7 +138,7 @@ pub mod font_decimal {
         pub mod up {}
     }
 
-    /// Padding a decimal to a width. These rules are the project's own.
+    /// A text that is padded to a width. OpenType has no such rule; std's format specifications have the same alignments.
     ///
     /// In the order of `crates/font_decimal/specs/Padding.antt`: [`shown_sign`](mod@Padding::shown_sign), [`unsigned_body`](mod@Padding::unsigned_body), [`spare_in_front`](mod@Padding::spare_in_front), [`laid_out`](mod@Padding::laid_out), [`padded_text`](mod@Padding::padded_text), [`FillsFront`](mod@Padding::FillsFront).
     pub mod Padding {
@@ -869,7 +869,7 @@ pub mod font_fixed {
         pub mod f2dot14_bits {}
     }
 
-    /// 2.30 fixed-point numbers: the project's own, and not stored in any table.
+    /// 2.30 fixed-point numbers. No table of OpenType stores them.
     ///
     /// In the order of `crates/font_fixed/specs/F2Dot30.antt`: [`F2Dot30`](mod@F2Dot30::F2Dot30), [`f2dot30_bits`](mod@F2Dot30::f2dot30_bits), [`f2dot30_of`](mod@F2Dot30::f2dot30_of).
     pub mod F2Dot30 {
@@ -1359,7 +1359,7 @@ pub mod font_fixed {
         use crate::definitions::font_fixed::Operations::ReadsBits;
         /// The result of parsing: the nearest value of the type with width w and f fraction bits; `Syntax` if the text is not a
         /// decimal; `OutOfRange` if its nearest value does not fit in the width. The printed text of a value parses as that
-        /// value. (The project's own rule.)
+        /// value.
         ///
         /// ```text
         /// record ParsesFixedPoint {T : Type 0} (w : Width) (f : ℕ) (bits_of : T → ℤ) (text : List ℕ)

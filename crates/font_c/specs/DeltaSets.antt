@@ -1,6 +1,6 @@
 -- Delta sets of item variation stores. (OpenType, item variation stores: a delta set has as many deltas of 16 bits as
 -- the low 15 bits of `wordDeltaCount` say, followed by deltas of 8 bits; or of 32 and of 16 bits, if its bit 0x8000 is
--- set.) The statuses are the project's own.
+-- set.) OpenType has no statuses.
 use Rattle.std.specs.Prelude.{◌≡◌, ◌+◌, ◌-◌, ◌*◌, ◌^◌, ◌<◌, ◌≤◌, ℕ, zero, suc, ℤ, pos, ◌+ℤ◌, ◌*ℤ◌, List, length, nat_lt}
 use Rattle.std.specs.Prelude.{if◌then◌else◌, slice_index_or, take, drop}
 use Rattle.font_types.specs.Bytes.{signed_numeral}

@@ -1,4 +1,4 @@
--- Padding requested by C. The project's own.
+-- A padding that a C program asks for: its fields, and the text that it gives. OpenType has no padding.
 use Rattle.std.specs.Prelude.{◌≡◌, ◌<◌, ◌≤◌, ℕ, zero, suc, ℤ, List, length, max, Bool, true, false}
 use Rattle.font_types.specs.declared.Align.TheVariants.{Left, Center, Right}
 use Rattle.font_types.specs.{Padding.padded_text, Shortest.shortest_text, declared.Align.Align, declared.Pad.Pad}

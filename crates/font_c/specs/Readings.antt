@@ -1,4 +1,4 @@
--- The result of parsing handed to C: a status, and a place for the raw bits. The project's own.
+-- What a C program gets of parsing: a status, and a raw value stored in its memory. OpenType has no statuses.
 use Rattle.std.specs.Prelude.{◌≡◌, ◌≢◌, ◌<◌, ℕ, zero, suc, ℤ, List, Result, Ok, Err}
 use Rattle.std.specs.Int.{Width}
 use Rattle.font_types.specs.DecimalFault.TheVariants.{Syntax, OutOfRange}

@@ -1,4 +1,4 @@
--- Statuses, and what all exports have in common. The project's own.
+-- The statuses that exports return, and what all exports have in common. OpenType has no statuses.
 use Rattle.std.specs.Prelude.{◌≡◌, ◌≢◌, ◌↔◌, ◌+◌, ◌≤◌, ℕ, ℤ}
 use Rattle.font_types.specs.Wrap.{FitsBits}
 

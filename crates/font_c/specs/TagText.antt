@@ -1,4 +1,4 @@
--- The buffer for the text of a tag. The project's own.
+-- The buffer in which a C program gets the text of a tag.
 use Rattle.std.specs.Prelude.{ℕ, List, take}
 use Rattle.font_c.specs.declared.tag_text.TagText.{TagText}
 

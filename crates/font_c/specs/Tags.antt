@@ -1,5 +1,5 @@
 -- Tags of C: 32-bit numbers with the big-endian bytes of the tag. (OpenType, data types: a Tag is an array of four
--- uint8s.) The statuses are the project's own.
+-- uint8s.) OpenType has no statuses.
 use Rattle.std.specs.Prelude.{◌≡◌, ◌≢◌, ℕ, pos, ◌⊎◌, List, length, slice_index}
 use Rattle.font_c.specs.Status.{tag_length, tag_byte, tag_after_space}
 use Rattle.font_types.specs.Bytes.{numeral, bytes_of}

@@ -1,4 +1,4 @@
--- Text written to a buffer of C. The project's own.
+-- What an export writes to the buffer of a C program: a text and its length, or nothing.
 use Rattle.std.specs.Prelude.{◌≡◌, ◌≢◌, ◌↔◌, ◌≤◌, ℕ, List, length}
 use Rattle.font_types.specs.Padding.{FillsFront}
 use Rattle.font_c.specs.Status.{buffer_too_small}

@@ -1,5 +1,5 @@
 -- Decimals: an optional `-`, one or more digits, and optionally a point followed by one or more digits. No plus sign,
--- exponent or space. This is the project's own textual form of a fixed-point number.
+-- exponent or space. OpenType has no such form.
 use Rattle.std.specs.Prelude.{◌≡◌, ℕ, ◌↔◌, Bool, IsTrue, List, [], ◌∷◌, ◌++◌, length, slice_index, ℤ, pos, ◌<ℤ◌, ◌≢◌}
 use Rattle.std.specs.Prelude.{◌%◌, ◌<◌, unsigned_abs}
 use Rattle.std.specs.{Fmt.sign_text, Str.Parse.digits_value, Str.Parse.AllDigits, Str.Parse.IsNumeral}

@@ -1,4 +1,4 @@
--- Padding a decimal to a width. These rules are the project's own.
+-- A text that is padded to a width. OpenType has no such rule; std's format specifications have the same alignments.
 use Rattle.std.specs.Prelude.{◌≡◌, ℕ, ◌+◌, ◌-◌, ◌/◌, Bool, List, [], ◌∷◌, ◌++◌, length, drop, replicate, slice_index}
 use Rattle.std.specs.Prelude.{◌==◌, if◌then◌else◌}
 use Rattle.font_decimal.specs.declared.padding.Align.TheVariants.{Left, Right, Center}

@@ -1,4 +1,4 @@
--- 2.30 fixed-point numbers: the project's own, and not stored in any table.
+-- 2.30 fixed-point numbers. No table of OpenType stores them.
 use Rattle.std.specs.Prelude.{ℕ, ℤ, List}
 use Rattle.font_decimal.specs.Shortest.{shortest_text}
 use Rattle.font_fixed.specs.declared.fixed_i32.FixedI32.{FixedI32}

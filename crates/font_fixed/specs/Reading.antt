@@ -8,7 +8,7 @@ use Rattle.font_fixed.specs.Operations.{ReadsBits, IsTooFar, ParsesBits}
 
 -- The result of parsing: the nearest value of the type with width w and f fraction bits; `Syntax` if the text is not a
 -- decimal; `OutOfRange` if its nearest value does not fit in the width. The printed text of a value parses as that
--- value. (The project's own rule.)
+-- value.
 pub record ParsesFixedPoint {T : Type 0} (w : Width) (f : ℕ) (bits_of : T → ℤ) (text : List ℕ)
     (result : Result T DecimalFault) : Type 0 where
   pub ok : (x : T) → (result ≡ Ok x) ↔ ReadsBits (bits w) f text (bits_of x)

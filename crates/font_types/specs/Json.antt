@@ -1,4 +1,4 @@
--- JSON forms of scalars. The rules are the project's own; strings, numbers and objects are JSON's.
+-- The JSON form of each scalar, made of JSON's strings, numbers and objects. OpenType has no such form.
 pub mod Laws
 use Rattle.std.specs.Prelude.{◌≡◌, ℕ, ◌-◌, ◌^◌, ℤ, Bool, IsTrue, ◌&&◌, int_le, if◌then◌else◌, List, Option, Some, None}
 use Rattle.std.specs.Prelude.{option_and_then, is_some, pos, IsUtf8, Result, Ok, Err, codes}
