@@ -6,18 +6,44 @@ use font_types as there;
 use font_types_proved as here;
 use here::{IdentityEq, ScalarArray};
 
-/// Returns the nearest integer, half away from zero, without `std`.
-fn nearest(x: f64) -> i64 {
-    let integer = x as i64;
-    let rest = x - integer as f64;
-    integer + i64::from(rest >= 0.5) - i64::from(rest <= -0.5)
+/// The trait of the page.
+trait Floats: Sized {
+    fn from_f64(x: f64) -> Self;
+    fn to_f64(self) -> f64;
+}
+
+macro_rules! floats {
+    ($($Type:ident $bits:ident)*) => {
+        $(impl<const F: u32> Floats for here::$Type<F> {
+            fn from_f64(x: f64) -> Self {
+                Self::from_bits((x * f64::from(1 << F) + 0.5_f64.copysign(x)) as $bits)
+            }
+
+            fn to_f64(self) -> f64 {
+                self.to_bits() as f64 / f64::from(1 << F)
+            }
+        })*
+    };
+}
+
+floats! { FixedI16 i16 FixedI32 i32 FixedI64 i64 }
+
+#[test]
+fn trait_of_the_page() {
+    let page = include_str!("../../docs/PORTING.md");
+    for line in [
+        "Self::from_bits((x * f64::from(1 << F) + 0.5_f64.copysign(x)) as i32)",
+        "f64::from(self.to_bits()) / f64::from(1 << F)",
+    ] {
+        assert!(page.contains(line), "{line}");
+    }
 }
 
 #[test]
-fn just_below_a_half_step() {
-    let step = 0.49999999999999994;
-    assert_eq!(there::Fixed::from_f64(step / 65536.0).to_bits(), 1);
-    assert_eq!(nearest(step), 0);
+fn just_below_half_a_step() {
+    let x = 0.49999997_f32 / 16384.0;
+    assert_eq!(there::F2Dot14::from_f32(x).to_bits(), 1);
+    assert_eq!(here::F2Dot14::from_f64(x.into()).to_bits(), 0);
 }
 
 /// The rows about fixed-point numbers, for each type, with its raw integer and its fraction bits.
@@ -25,21 +51,18 @@ macro_rules! of_each_type {
     ($($Type:ident $bits:ident $f:literal;)*) => {
         #[test]
         fn floats() {
-            const STEP: [f64; 5] = [-0.5, -0.25, 0.0, 0.25, 0.5];
             $(for raw in edges($bits::BITS).into_iter().filter(|raw| raw.unsigned_abs() < 1 << 50) {
                 let x = here::$Type::from_bits(raw as $bits);
-                let one = f64::from(1 << $f);
-                // `from_f64(v)`, `from_f32(v)`.
-                for v in STEP.map(|step| (raw as f64 + step) / one) {
-                    let y = here::$Type::from_bits(nearest(v * one) as $bits);
-                    let fits = (nearest(v * one) as $bits) as i64 == nearest(v * one);
-                    let z = there::$Type::from_f64(v);
-                    assert!(!fits || y.to_bits() == z.to_bits(), "{v}");
+                let y = there::$Type::from_bits(raw as $bits);
+                // Half a step and the number below it, and values that saturate.
+                for step in [-0.5, -0.49999999999999994, -0.25, 0.0, 0.49999999999999994, 0.5] {
+                    for v in [(raw as f64 + step) / f64::from(1 << $f), raw as f64, f64::NAN] {
+                        let z = there::$Type::from_f64(v);
+                        assert_eq!(here::$Type::from_f64(v).to_bits(), z.to_bits(), "{v}");
+                    }
                 }
-                // `x.to_f64()`, `x.to_f32()`.
-                let (float, y) = (x.to_bits() as f64 / one, there::$Type::from_bits(raw as $bits));
-                assert_eq!(float, y.to_f64(), "{raw}");
-                assert_eq!(float as f32, y.to_f32(), "{raw}");
+                assert_eq!(x.to_f64(), y.to_f64(), "{raw}");
+                assert_eq!(x.to_f64() as f32, y.to_f32(), "{raw}");
                 // `"1.5".parse::<f64>()` and `from_f64`.
                 let text = x.to_string();
                 let z = there::$Type::from_f64(text.parse().unwrap());
@@ -143,6 +166,23 @@ fn array_in_place_of_a_slice_of_fields() {
     for value in 0..6 {
         let place = fields.binary_search_by_key(&value, |field| field.get());
         assert_eq!(array.binary_search(&value), place);
+    }
+}
+
+#[test]
+fn values_between_both() {
+    use {here::Scalar as _, there::Scalar as _};
+    for raw in edges(32).into_iter().map(|raw| raw as i32) {
+        let (ours, theirs) = (here::Fixed::from_bits(raw), there::Fixed::from_bits(raw));
+        assert_eq!(here::Fixed::from_bits(theirs.to_bits()), ours);
+        assert_eq!(there::Fixed::from_bits(ours.to_bits()), theirs);
+        let tag = there::Tag::from_u32(raw as u32);
+        assert_eq!(here::Tag::new(&tag.to_be_bytes()).to_u32(), raw as u32);
+        assert_eq!(there::Tag::new(&here::Tag::new(&tag.to_be_bytes()).to_be_bytes()), tag);
+        let date = there::LongDateTime::new(raw.into());
+        let read = here::LongDateTime::read(&there::Scalar::to_raw(date)).unwrap();
+        assert_eq!(there::LongDateTime::read(&here::Scalar::to_raw(read)), Some(date));
+        assert_eq!(read.as_secs(), raw.into());
     }
 }
 
