@@ -1,6 +1,7 @@
 """The repository: what its pages name, link to and show is there; its package is whole and of one
 version; and no test, mutant or stored line is lost."""
 
+import collections
 import pathlib
 import re
 import subprocess
@@ -28,9 +29,9 @@ OTHERS = (
 # of its files, and a text.
 COUNTS = [
     ("tests/", ".rs", "#[test]\n", 204),
-    ("compare/tests/", ".rs", "#[test]\n", 27),
+    ("compare/tests/", ".rs", "#[test]\n", 29),
     ("crates/", ".rt", "#[test]\n", 152),
-    ("tools/tests/", ".py", "\n    def test_", 22),
+    ("tools/tests/", ".py", "\n    def test_", 23),
     ("tests/", ".rs", "#[ignore", 0),
     ("compare/tests/", ".rs", "#[ignore", 0),
     ("tests/", ".rs", "#[cfg", 11),
@@ -140,16 +141,26 @@ class Pages(unittest.TestCase):
             self.assertFalse(wrong, page)
 
     def test_shown_code(self):
-        # README shows a contract and two definitions, CALLING a file.
+        # README shows a contract and a definition, CALLING a file.
         squeezed = lambda text: "".join(text.split())
-        files = ["src/reader.rt", "specs/Reading.antt", "specs/Near.antt"]
+        files = ["src/reader.rt", "specs/Reading.antt"]
         source = squeezed("".join(text(f"crates/font_decimal/{file}") for file in files))
-        blocks = text("README.md").partition("### What a contract looks like")[2].split("```")
-        shown = [it.split("\n", 1)[1] for it in blocks[1:6:2]]
-        for block in shown:
+        _, page = text("README.md").split("## What a contract looks like")
+        contract, definition = [it.split("\n", 1)[1] for it in page.split("```")[1::2]]
+        for block in contract, definition:
             self.assertTrue(squeezed(block) in source, block)
         file, after = text("docs/CALLING.md").split("](../crates/callers/", 1)[1].split(")", 1)
         self.assertEqual(after.split("```")[1].split("\n", 1)[1], text(f"crates/callers/{file}"))
+
+    def test_lines_of_definitions(self):
+        """EVIDENCE has a row for each crate with definitions, but `callers` and `font_fixed2`."""
+        counted = collections.Counter()
+        for path in of("crates/", ".antt"):
+            if of_crate := re.fullmatch(r"crates/(\w+)/specs/\w+\.antt", path):
+                counted[of_crate[1]] += text(path).count("\n")
+        del counted["callers"], counted["font_fixed2"]
+        rows = re.findall(r"\n\| \[(\w+)\]\(\S+/specs\) \| (\d+) \|", text("docs/EVIDENCE.md"))
+        self.assertEqual({name: int(number) for name, number in rows}, dict(counted))
 
     def test_signs_of_contracts(self):
         """The legend has each sign and each member of a callback that contracts use."""

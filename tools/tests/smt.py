@@ -99,7 +99,7 @@ class SecondProof(unittest.TestCase):
         known = rows()
         places = [(it.place(known), it.text) for it in functions()]
         self.assertEqual([text for place, text in places if place is None], [])
-        page = (ROOT / "docs/PROMISES.md").read_text().split("| Public functions | Number |")[1]
+        page = (ROOT / "docs/EVIDENCE.md").read_text().split("| Public functions | Number |")[1]
         table = dict(re.findall(r"^\| (.*) \| (\d+) \|$", page.split("\n\n")[0], re.M))
         counts = collections.Counter(place for place, _ in places)
         self.assertEqual({place: str(count) for place, count in counts.items()}, table)

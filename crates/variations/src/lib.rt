@@ -6,11 +6,6 @@
 //!   coordinates, and the sum of the deltas, each times its scalar, moves the advance.
 //! - `advances`: the same by a table `HVAR`, with the delta set of a glyph and its subtable found.
 //! - `instances`: a store at given coordinates, with the scalar of each region computed once.
-//!
-//! At given coordinates, for regions of n axes (n > 0), the scalar of a region is within n - 1/2
-//! units of 2^-16 of the exact one, which nothing rounds, and an advance within 1/2 + (n - 1/2) *
-//! (the sum of the magnitudes of its deltas) / 65536 font units. What was rounded to reach the
-//! coordinates is not counted.
 #![tactic(auto, using(font_types::proofs::Callers::calls))]
 
 pub mod advances;
