@@ -70,10 +70,10 @@
 #endif
 
 /** The version of this header. */
-#define FTY_VERSION "0.7.0"
+#define FTY_VERSION "0.8.0"
 
 /** The same as a number, major << 16 | minor << 8 | patch: later versions are greater. */
-#define FTY_VERSION_NUMBER 0x000700
+#define FTY_VERSION_NUMBER 0x000800
 
 /** @cond */
 #ifdef __cplusplus
