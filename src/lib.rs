@@ -83,6 +83,7 @@ mod font_tags;
 mod font_types;
 
 #[cfg(doc)]
+#[doc = include_str!("contracts.md")]
 #[path = "generated/definitions.rs"]
 pub mod definitions;
 

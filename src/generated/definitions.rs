@@ -1,6 +1,5 @@
 // @generated from crates/*/specs by tools/erase
 
-#![doc = include_str!("../contracts.md")]
 #![allow(non_snake_case)]
 
 /// Definitions of the crate `font_decimal`.

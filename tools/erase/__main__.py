@@ -1,6 +1,7 @@
 """Writes what is generated: the sources of fixed-point numbers of 16 and 64 bits, and the Rust of
 the crates that cargo compiles: `python3 tools/erase`."""
 
+import collections
 import pathlib
 import subprocess
 import sys
@@ -18,8 +19,14 @@ ROOT = pathlib.Path(__file__).resolve().parents[2]
 # runs no tests of `fontval_main` and `font_c`, and of `callers` there is no Rust.
 LEFT_OUT = {"font_base": ["facts"], "font_types": ["json"], "rows": ["json", "raw"]}
 
-# The definitions that contracts name, in pages of rustdoc.
-PAGES = "src/generated/definitions.rs"
+# The definitions that the contracts of each package name, in pages of rustdoc.
+PAGES = {
+    "library": "src/generated/definitions.rs",
+    "variations": "variations/src/generated/definitions.rs",
+}
+
+# The legend of contracts, and the copy that the package of variations has.
+LEGEND, COPY = "src/contracts.md", "variations/src/generated/contracts.md"
 
 # Each crate, the name of its root, and the folder of its files.
 CRATES = [
@@ -42,13 +49,13 @@ def add_file(files, of, source, name, folder, module):
     """Adds a file and the modules that it declares."""
     path = f"{source}/{name}.rt"
     try:
-        erased = Eraser((ROOT / path).read_text(), of, module == "mod", DEFINITIONS, path)
+        erased = Eraser((ROOT / path).read_text(), of, module == "mod", PATHS, path)
     except Refused as error:
         line, what = error.args
         sys.exit(f"{path}:{line}: {what}: see tools/erase/forms.py")
     except (IndexError, StopIteration):
         sys.exit(f"{path}: it ends within an item")
-    SHOWN.update(erased.contracts.shown.values())
+    SHOWN[of.target].update(erased.contracts.shown.values())
     files[f"{folder}/{module}.rs"] = formatted(path, erased.written())
     # A module of the root is in the same folder, and one of another file in a folder of its name.
     below = lambda folder, file: folder if file in ("lib", "main", "mod") else f"{folder}/{file}"
@@ -80,11 +87,15 @@ def update(files, old):
 
 
 update(*widths.tree(ROOT))
-files, old = {}, {PAGES}
-# The definitions of the library, the comments of their files, and the definitions that are shown.
-(DEFINITIONS, HEADS), SHOWN = definitions.read(ROOT, eraser.LIBRARY), set()
+files, old = {COPY: (ROOT / LEGEND).read_text()}, set(PAGES.values())
+# The definitions, the comments of their files and the paths that imports have; and the definitions
+# that are shown.
+DEFINITIONS, HEADS, PATHS = definitions.read(ROOT, [*eraser.LIBRARY, "variations"])
+SHOWN: dict[str, set[str]] = collections.defaultdict(set)
 for of, name, folder in CRATES:
     add_file(files, of, f"crates/{of.name}/src", name, folder, "mod")
     old.update(str(path.relative_to(ROOT)) for path in (ROOT / folder).rglob("*") if path.is_file())
-files[PAGES] = formatted("crates/*/specs", definitions.pages(DEFINITIONS, HEADS, SHOWN))
+for target, path in PAGES.items():
+    pages = definitions.pages(DEFINITIONS, HEADS, SHOWN[target])
+    files[path] = formatted("crates/*/specs", pages)
 update(files, old)

@@ -1,5 +1,6 @@
-"""Contracts in the documentation of the library: below the words of an item, folded, its clauses as
-the source has them, and links to the definitions that they name, which rustdoc finds by imports."""
+"""Contracts in the documentation of both packages: below the words of an item, folded, its clauses
+as the source has them, and links to the definitions that they name, which rustdoc finds by imports.
+"""
 
 import re
 
@@ -32,6 +33,7 @@ class Contracts:
     def __init__(self, eraser, known):
         self.eraser, self.imported, self.shown = eraser, {}, {}
         source = "".join(text for _, text, _ in eraser.tokens)
+        self.functions = set(re.findall(r"\bfn (\w+)", source))
         for path, names in IMPORT.findall(source):
             self.imported |= definitions.imported(path, names, known)
 
@@ -77,7 +79,8 @@ class Contracts:
         names = definitions.named(text, self.imported)
         self.shown |= names
         fold = "<details><summary>Contract</summary>\n\n```text"
-        links = "[Notation](crate::definitions)" + definitions.links(names).replace("\n", ": ")
+        links = definitions.links(names, self.functions).replace("\n", ": ")
+        links = f"[Notation](crate::definitions){links}"
         shown = definitions.docs(f"{fold}\n{text}\n```\n{links}\n</details>")
         if clauses and end is None:
             self.eraser.put(self.first(at), shown)

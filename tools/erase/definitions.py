@@ -2,10 +2,15 @@
 of its `specs`, and for each definition. Only rustdoc compiles them."""
 
 import re
+from collections.abc import Iterable
+from pathlib import Path
 
 # A definition begins so; a lemma does not. One of a `module _` is indented.
 START = re.compile(r"\s*(?:abbrev |unfoldable |record |pub )+(\w+)", re.UNICODE)
 IMPORT = re.compile(r"^use Rattle\.([\w.]+)\.\{(.*)\}", re.MULTILINE)
+
+# A file of another crate's `specs`, which a crate also has, by its own name or by another.
+EXPORT = re.compile(r"^pub use Rattle\.(\w+)\.specs\.(\w+)(?: as (\w+))?$", re.MULTILINE)
 
 
 class Definition:
@@ -16,9 +21,11 @@ class Definition:
         self.comment, self.text, self.names = comment, text, {}
 
 
-def read(root, crates):
-    """Returns the definitions of these crates by their paths, as `font_decimal::Near::Up`, and the
-    comments of their files."""
+def read(
+    root: Path, crates: list[str]
+) -> tuple[dict[str, Definition], dict[str, str], dict[str, str]]:
+    """Returns the definitions of these crates by their paths, as `font_decimal::Near::Up`, the
+    comments of their files, and the path of a definition by each path that imports have."""
     definitions, heads, imports = {}, {}, {}
     for crate in crates:
         for file in sorted((root / f"crates/{crate}/specs").glob("*.antt")):
@@ -31,20 +38,34 @@ def read(root, crates):
                 block = re.sub(r"(?m)\A(--.*\n)*", "", block)
                 if (name := START.match(block)) and not block.startswith("pub mod"):
                     definitions[f"{module}::{name[1]}"] = Definition(comment, block)
+    paths = {path: path for path in definitions} | exported(root, crates, definitions)
     for path, definition in definitions.items():
         module = path.rpartition("::")[0]
         known = {it.rpartition("::")[2]: it for it in definitions if it.startswith(f"{module}::")}
         for line in imports[module]:
-            known |= imported(*line, definitions)
+            known |= imported(*line, paths)
         definition.names = named(definition.text, known)
         definition.names.pop(path.rpartition("::")[2], None)
-    return definitions, heads
+    return definitions, heads, paths
+
+
+def exported(root: Path, crates: list[str], definitions: Iterable[str]) -> dict[str, str]:
+    """Returns the paths of definitions by those that crates give them which re-export their files."""
+    paths = {}
+    for crate in crates:
+        lib = (root / f"crates/{crate}/specs/Lib.antt").read_text()
+        for of, file, own in EXPORT.findall(lib):
+            start = f"{of}::{file}::"
+            for path in definitions:
+                if path.startswith(start):
+                    paths[f"{crate}::{own or file}::{path.removeprefix(start)}"] = path
+    return paths
 
 
 def comment_of(text):
     """Returns the lines of the comment with which a text begins."""
     lines = re.match(r"(--.*\n?)*", text)[0].splitlines()
-    return "\n".join(line[3:] for line in lines)
+    return "\n".join(line[3:].removeprefix("---- ") for line in lines)
 
 
 def dedented(text):
@@ -52,15 +73,15 @@ def dedented(text):
     return "\n".join(line[indent:] for line in text.splitlines())
 
 
-def imported(path, names, definitions):
+def imported(path: str, names: str, paths: dict[str, str]) -> dict[str, str]:
     """Returns the paths of the names of an import that are definitions, by the names that it gives
     them."""
     known = {}
     for name in names.split(","):
         name, _, own = name.strip().partition(" as ")
         item = f"{path}.{name}".replace(".specs.", "::").replace(".", "::")
-        if item in definitions:
-            known[own or name.rpartition(".")[2]] = item
+        if item in paths:
+            known[own or name.rpartition(".")[2]] = paths[item]
     return known
 
 
@@ -74,9 +95,11 @@ def docs(text):
     return "".join(f"/// {line}".rstrip() + "\n" for line in text.strip("\n").splitlines())
 
 
-def links(names):
-    """Returns links to definitions, below a text that names them."""
-    return "\n" + ", ".join(f"[`{name}`]" for name in names) if names else ""
+def links(names: dict[str, str], functions: set[str] = frozenset()) -> str:
+    """Returns links to definitions, below a text that names them. These functions may have the name
+    of one."""
+    shown = ("mod@" * (name in functions) + name for name in names)
+    return "\n" + ", ".join(f"[`{name}`]" for name in shown) if names else ""
 
 
 def pages(definitions, heads, wanted):
@@ -87,7 +110,7 @@ def pages(definitions, heads, wanted):
         if path not in kept:
             kept.add(path)
             left += definitions[path].names.values()
-    rust = '#![doc = include_str!("../contracts.md")]\n#![allow(non_snake_case)]\n\n'
+    rust = "#![allow(non_snake_case)]\n\n"
     crate = None
     for module, head in heads.items():
         of, file = module.split("::")

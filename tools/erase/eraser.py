@@ -65,7 +65,8 @@ DERIVED = {
 # Errors that are `Copy` in Rust. A derived `Copy` would change what the derived `Clone` does.
 COPIED = ("DecimalFault", "InvalidTag", "SettingError")
 
-DERIVING = ("library", "variations")
+# The targets that have documentation, and derive what `DERIVED` and `COPIED` say.
+PACKAGES = ("library", "variations")
 
 
 class Refused(Exception):
@@ -119,7 +120,7 @@ class Eraser:
         at = 0
         while at < len(self.words):
             self.visited.append(at)
-            if of.target == "library":
+            if of.target in PACKAGES:
                 self.contracts.note(at)
             at = self.step(at)
         first = (n for n, word in enumerate(self.words) if word in ("ghost", "use"))
@@ -199,11 +200,11 @@ class Eraser:
                 end = item + 3
             case ["use", *_] if forms.is_unused(self, item, self.item_end(item)):
                 end = self.item_end(item)
-            case ["enum", name, *_] if name in COPIED and self.of.target in DERIVING:
+            case ["enum", name, *_] if name in COPIED and self.of.target in PACKAGES:
                 after = self.group_end(self.header_end(item))
                 self.put_after(after - 1, f"\n\nimpl Copy for {name} {{}}\n")
                 return item
-            case ["struct" | "enum", name, *_] if name in DERIVED and self.of.target in DERIVING:
+            case ["struct" | "enum", name, *_] if name in DERIVED and self.of.target in PACKAGES:
                 self.put(at, f"#[derive({DERIVED[name]})]\n")
                 return item
             case ["mod", name, *_] if item == at:

@@ -58,7 +58,8 @@ class Sources:
                     self.files[f"{head[1]}/src/{head[2]}.rt"] = str(path.relative_to(root))
                     self.modules.add("::".join(head[1].split() + head[2].split("/")))
                     self.crates[first.removesuffix(".rs")] = head[1]
-        if len(self.lines) != len(self.files) + 1:  # definitions.rs, for documentation
+        # There are two definitions.rs, for documentation.
+        if len(self.lines) != len(self.files) + 2:
             raise ValueError("a generated file is of no source, or two are of one")
 
     def exports(self):

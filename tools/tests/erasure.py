@@ -126,6 +126,7 @@ OF_OTHERS = r"""
 fontval fn main() { 0..std::io::N } ⇒ pub fn main() { 0..crate::host::io::N }
 fontval fn f(n: &font_types::N) {} ⇒ fn f(n: &font_types_proved::N) {}
 variations fn f(n: &font_types::N) {} ⇒ fn f(n: &font_types_proved::N) {}
+variations /// Two.⏎fn f() ensures { T } {} ⇒ /// Two.⏎///⏎FOLD/// ensures { T }⏎END⏎fn f()  {}
 font_ids fn f(rt: HostRuntime) { 0..1 } ⇒ fn f() {let rt = crate::rattle::Host; 0..1 }
 font_ids use std::test::Fail; n.clone()?; ⇒ use crate::rattle::test::Fail; n.clone();
 font_ids x.repeat(rt.alloc(), n)?; crate::N ⇒ x.repeat( n); crate::font_ids::N
@@ -135,6 +136,12 @@ font_ids x.repeat(rt.alloc(), n)?; crate::N ⇒ x.repeat( n); crate::font_ids::N
 def rows(table):
     lines = table.replace("\\\n", "").strip().splitlines()
     return [line.replace("⏎", "\n") for line in lines if not line.startswith("// ")]
+
+
+def in_full(rust):
+    for short, text in SHORT.items():
+        rust = rust.replace(short, text)
+    return rust
 
 
 def erased(source, name="font_base", target="library"):
@@ -178,10 +185,8 @@ class Erasure(unittest.TestCase):
     def test_changed(self):
         for row in rows(SAME) + rows(CHANGED):
             source, _, rust = row.partition(" ⇒ ")
-            for short, text in SHORT.items():
-                rust = rust.replace(short, text)
             found = re.sub(r"#\[(inline|must_use)\]\n", "", erased(source))
-            self.assertEqual(found, rust or source)
+            self.assertEqual(found, in_full(rust) or source)
         for row in rows(ATTRIBUTES):
             source, _, attributes = row.partition(" ⇒ ")
             self.assertEqual(erased(source), attributes + source)
@@ -189,4 +194,4 @@ class Erasure(unittest.TestCase):
             name, row = row.split(" ", 1)
             source, rust = row.split(" ⇒ ")
             target = {"fontval": "program", "variations": "variations"}.get(name, "tests")
-            self.assertTrue(erased(source, name, target).endswith(rust), row)
+            self.assertTrue(erased(source, name, target).endswith(in_full(rust)), row)

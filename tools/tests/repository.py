@@ -18,6 +18,9 @@ def run(*command):
 
 FILES = run("git", "ls-files", "--cached", "--others", "--exclude-standard")
 
+# The generated Rust of both packages, which has their documentation.
+GENERATED = ("src/generated/", "variations/src/generated/")
+
 # Names of std, of other crates and libraries, and of earlier versions.
 OTHERS = (
     "__udivti3 FT_Matrix_Invert bytemuck cast_slice get_mut size_of strip_suffix type_name "
@@ -122,7 +125,7 @@ class Pages(unittest.TestCase):
         }
         # The documentation of each type names its file.
         pages = [path for path in of("", ".md") if path != "CHANGELOG.md"]
-        for page in pages + of("src/generated/", ".rs"):
+        for page in pages + of(GENERATED, ".rs"):
             wrong, shown = [], text(page)
             for name in quoted(shown, ":"):
                 parts = name.split("::")
@@ -163,12 +166,14 @@ class Pages(unittest.TestCase):
         self.assertEqual({name: int(number) for name, number in rows}, dict(counted))
 
     def test_signs_of_contracts(self):
-        """The legend has each sign and each member of a callback that contracts use."""
-        shown = [text(path) for path in of("src/generated/", ".rs")]
+        """The legend has each sign, each member of a callback and each case of an `Option` or a
+        `Result` that contracts use."""
+        shown = [text(path) for path in of(GENERATED, ".rs")]
         clauses = "".join(re.findall(r"/// ```text\n(.*?)/// ```", "".join(shown), re.DOTALL))
         code = re.sub(r"///|//.*|-- .*", "", clauses)
-        signs = re.findall(r"[+*<-]?[^\x00-\x7f]+|&&|==|\+\+|\^|\bF\.\w+", code)
-        page = "".join(text("src/contracts.md").split("```")[::2])
+        cases = r"\b(?:Is|If|Match)(?:Some|None|Ok|Err|Option|Result)\b"
+        signs = re.findall(rf"[+*<-]?[^\x00-\x7f]+|&&|\|\||==|\+\+|\^|\bF\.\w+|{cases}", code)
+        page = "".join(text("src/contracts.md").split("```")[::2]).replace("\\|", "|")
         legend = " ".join(re.findall("`([^`]+)`", page))
         self.assertFalse({sign for sign in signs if sign not in legend})
 

@@ -5,6 +5,11 @@
 // The generated source is written for its proofs.
 #![allow(clippy::manual_find)]
 
+#[cfg(doc)]
+#[doc = include_str!("generated/contracts.md")]
+#[path = "generated/definitions.rs"]
+pub mod definitions;
+
 mod generated;
 
 pub use generated::*;

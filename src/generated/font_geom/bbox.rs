@@ -73,7 +73,7 @@ impl<T: PartialOrd + Copy> BoundingBox<T> {
     /// ```text
     /// ensures { result ≡ is_normalized (partial_le T.partial_cmp) self.now }
     /// ```
-    /// [Notation](crate::definitions): [`is_normalized`]
+    /// [Notation](crate::definitions): [`mod@is_normalized`]
     /// </details>
     #[must_use]
     #[inline]
@@ -95,7 +95,7 @@ impl<T: PartialOrd + Copy> BoundingBox<T> {
     /// ensures once { Compares (partial_le T.partial_cmp) self.now
     ///     → normalized_box (partial_le T.partial_cmp) result ≡ result }
     /// ```
-    /// [Notation](crate::definitions): [`normalized_box`], [`HasSamePairs`], [`Compares`], [`is_normalized`]
+    /// [Notation](crate::definitions): [`normalized_box`], [`HasSamePairs`], [`Compares`], [`mod@is_normalized`]
     /// </details>
     #[must_use]
     #[inline]

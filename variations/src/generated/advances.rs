@@ -2,6 +2,37 @@
 
 //! Advances by a table `HVAR`, from its bytes to a varied advance.
 
+#[cfg(doc)]
+use crate::definitions::font_ids::FWord::ufword_number;
+#[cfg(doc)]
+use crate::definitions::font_ids::GlyphId::glyph16_number;
+#[cfg(doc)]
+use crate::definitions::variations::Advances::HasData;
+#[cfg(doc)]
+use crate::definitions::variations::Advances::HasGlyphSet;
+#[cfg(doc)]
+use crate::definitions::variations::Advances::HasTarget;
+#[cfg(doc)]
+use crate::definitions::variations::Advances::inner_index;
+#[cfg(doc)]
+use crate::definitions::variations::Advances::outer_index;
+#[cfg(doc)]
+use crate::definitions::variations::Advances::regions_of;
+#[cfg(doc)]
+use crate::definitions::variations::Advances::subtable_of;
+#[cfg(doc)]
+use crate::definitions::variations::Advances::target_of;
+#[cfg(doc)]
+use crate::definitions::variations::Variations::HasNoVaried;
+#[cfg(doc)]
+use crate::definitions::variations::Variations::HasSet;
+#[cfg(doc)]
+use crate::definitions::variations::Variations::IsNearAdvance;
+#[cfg(doc)]
+use crate::definitions::variations::Variations::IsNoVariation;
+#[cfg(doc)]
+use crate::definitions::variations::Variations::IsVaried;
+
 use super::delta_sets::vary_advance;
 use super::maps::{DeltaSetIndex, is_no_variation, read_delta_set_index};
 use font_types_proved::{F2Dot14, GlyphId16, Scalar, UfWord};
@@ -29,6 +60,20 @@ fn glyph_set(hvar: &[u8], glyph: u16) -> Option<DeltaSetIndex> {
 /// offset points past the end, or the map of glyphs has no entry.
 ///
 /// The version of the table is not read: it has to be 1.
+///
+/// <details><summary>Contract</summary>
+///
+/// ```text
+/// ensures variant { IsSome result
+///     ↔ (HasTarget hvar.now 4 × HasGlyphSet hvar.now (glyph16_number glyph)) }
+/// ensures store { IfSome result (λ found. found.0.now ≡ target_of hvar.now 4) }
+/// ensures outer { IfSome result (λ found.
+///     found.1.outer ≡ outer_index hvar.now (glyph16_number glyph)) }
+/// ensures inner { IfSome result (λ found.
+///     found.1.inner ≡ inner_index hvar.now (glyph16_number glyph)) }
+/// ```
+/// [Notation](crate::definitions): [`HasTarget`], [`HasGlyphSet`], [`glyph16_number`], [`target_of`], [`outer_index`], [`inner_index`]
+/// </details>
 #[must_use]
 pub fn store_and_set(hvar: &[u8], glyph: GlyphId16) -> Option<(&[u8], DeltaSetIndex)> {
     let store = at_offset(hvar, 4)?;
@@ -55,6 +100,24 @@ pub(crate) fn data_of(store: &[u8], set: DeltaSetIndex) -> Option<(&[u8], &[u8],
 /// The time is that of [`set_sum`](crate::delta_sets::set_sum), which an untrusted font can make
 /// long: for such a font, and for many glyphs, use
 /// [`StoreInstance`](crate::instances::StoreInstance).
+///
+/// <details><summary>Contract</summary>
+///
+/// ```text
+/// ensures unvaried { IsNoVariation set.outer set.inner → result ≡ Some advance }
+/// ensures value { ¬ IsNoVariation set.outer set.inner → MatchOption result
+///     ((¬ HasData store.now set.outer set.inner) ⊎ HasNoVaried (regions_of store.now)
+///     (subtable_of store.now set.outer) coordinates.now set.inner (ufword_number advance))
+///     (λ varied. HasData store.now set.outer set.inner
+///     × HasSet (regions_of store.now) (subtable_of store.now set.outer) set.inner
+///     × IsVaried (regions_of store.now) (subtable_of store.now set.outer) coordinates.now
+///     set.inner (ufword_number advance) (pos (ufword_number varied))) }
+/// ensures near { ¬ IsNoVariation set.outer set.inner → IfSome result (λ varied.
+///     IsNearAdvance (regions_of store.now) (subtable_of store.now set.outer) coordinates.now
+///     set.inner (ufword_number advance) (pos (ufword_number varied))) }
+/// ```
+/// [Notation](crate::definitions): [`IsNoVariation`], [`HasData`], [`HasNoVaried`], [`regions_of`], [`subtable_of`], [`ufword_number`], [`HasSet`], [`IsVaried`], [`IsNearAdvance`]
+/// </details>
 #[must_use]
 pub fn varied_by(
     advance: UfWord,

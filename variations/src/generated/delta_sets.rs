@@ -2,6 +2,33 @@
 
 //! Delta sets of item variation data: their deltas, their sums, and advances that they move.
 
+#[cfg(doc)]
+use crate::definitions::font_fixed::F48Dot16::f48dot16_bits;
+#[cfg(doc)]
+use crate::definitions::font_fixed::Fixed::fixed_bits;
+#[cfg(doc)]
+use crate::definitions::font_ids::FWord::ufword_number;
+#[cfg(doc)]
+use crate::definitions::variations::Variations::HasDelta;
+#[cfg(doc)]
+use crate::definitions::variations::Variations::HasNoVaried;
+#[cfg(doc)]
+use crate::definitions::variations::Variations::HasSet;
+#[cfg(doc)]
+use crate::definitions::variations::Variations::HasTerm;
+#[cfg(doc)]
+use crate::definitions::variations::Variations::IsNearAdvance;
+#[cfg(doc)]
+use crate::definitions::variations::Variations::IsNearSetSum;
+#[cfg(doc)]
+use crate::definitions::variations::Variations::IsSetSum;
+#[cfg(doc)]
+use crate::definitions::variations::Variations::IsTerm;
+#[cfg(doc)]
+use crate::definitions::variations::Variations::IsVaried;
+#[cfg(doc)]
+use crate::definitions::variations::Variations::delta_of;
+
 use super::regions::region_scalar;
 use font_types_proved::{F2Dot14, F48Dot16, Fixed, Scalar, UfWord};
 
@@ -12,6 +39,16 @@ const WORD_DELTA_COUNT_MASK: u16 = 0x7FFF;
 
 /// Reads the delta of a column in a set, or returns `None` if the subtable does not have it. The
 /// first columns are wide, and all are twice as wide in a subtable of long words.
+///
+/// <details><summary>Contract</summary>
+///
+/// ```text
+/// ensures variant { IsSome result ↔ HasDelta subtable.now set column }
+/// ensures value { IfSome result (λ delta. delta ≡ delta_of subtable.now set column) }
+/// ensures size { IfSome result (λ delta. unsigned_abs delta ≤ 2 ^ 31) }
+/// ```
+/// [Notation](crate::definitions): [`HasDelta`], [`delta_of`]
+/// </details>
 #[must_use]
 pub fn read_delta(subtable: &[u8], set: u16, column: u16) -> Option<i32> {
     let (words, count) = (u16::read_at(subtable, 2)?, u16::read_at(subtable, 4)?);
@@ -78,6 +115,19 @@ fn read_signed(bytes: &[u8], offset: usize, width: usize) -> Option<i32> {
 
 /// Returns the scalar of a column's region and the delta of the column in a set, or `None` if the
 /// subtable does not have the delta or the list the region.
+///
+/// <details><summary>Contract</summary>
+///
+/// ```text
+/// ensures variant { IsSome result ↔ HasTerm regions.now subtable.now set column }
+/// ensures value { IfSome result (λ term.
+///     IsTerm regions.now subtable.now coordinates.now set column term) }
+/// ensures low { IfSome result (λ term. pos 0 ≤ℤ fixed_bits term.0) }
+/// ensures high { IfSome result (λ term. fixed_bits term.0 ≤ℤ fixed_bits Fixed.ONE) }
+/// ensures size { IfSome result (λ term. unsigned_abs term.1 ≤ 2 ^ 31) }
+/// ```
+/// [Notation](crate::definitions): [`HasTerm`], [`IsTerm`], [`fixed_bits`]
+/// </details>
 #[must_use]
 pub fn column_term(
     regions: &[u8],
@@ -110,6 +160,18 @@ fn term_in(
 ///
 /// For each column of the set, all axes of its region are walked, whatever the number of
 /// coordinates. A font of 400 kB can have 65,535 axes and 1,000 columns.
+///
+/// <details><summary>Contract</summary>
+///
+/// ```text
+/// ensures variant { IsSome result ↔ HasSet regions.now subtable.now set }
+/// ensures value { IfSome result (λ sum.
+///     IsSetSum regions.now subtable.now coordinates.now set (f48dot16_bits sum)) }
+/// ensures near { IfSome result (λ sum.
+///     IsNearSetSum regions.now subtable.now coordinates.now set (f48dot16_bits sum)) }
+/// ```
+/// [Notation](crate::definitions): [`HasSet`], [`IsSetSum`], [`f48dot16_bits`], [`IsNearSetSum`]
+/// </details>
 #[must_use]
 pub fn set_sum(
     regions: &[u8],
@@ -135,6 +197,19 @@ pub fn set_sum(
 
 /// Adds the sum of a delta set at these coordinates to an advance and rounds once, half up, or
 /// returns `None` if the set is not there or the result is out of range.
+///
+/// <details><summary>Contract</summary>
+///
+/// ```text
+/// ensures value { MatchOption result
+///     (HasNoVaried regions.now subtable.now coordinates.now set (ufword_number advance))
+///     (λ varied. HasSet regions.now subtable.now set × IsVaried regions.now subtable.now
+///     coordinates.now set (ufword_number advance) (pos (ufword_number varied))) }
+/// ensures near { IfSome result (λ varied. IsNearAdvance regions.now subtable.now
+///     coordinates.now set (ufword_number advance) (pos (ufword_number varied))) }
+/// ```
+/// [Notation](crate::definitions): [`HasNoVaried`], [`ufword_number`], [`HasSet`], [`IsVaried`], [`IsNearAdvance`]
+/// </details>
 #[must_use]
 pub fn vary_advance(
     advance: UfWord,

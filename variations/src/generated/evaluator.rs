@@ -2,11 +2,42 @@
 
 //! Coordinates of an instance: settings, `fvar` and `avar`.
 
+#[cfg(doc)]
+use crate::definitions::font_base::Bytes::numeral;
+#[cfg(doc)]
+use crate::definitions::font_base::Bytes::signed_numeral;
+#[cfg(doc)]
+use crate::definitions::font_fixed::F2Dot14::f2dot14_bits;
+#[cfg(doc)]
+use crate::definitions::font_fixed::Fixed::fixed_bits;
+#[cfg(doc)]
+use crate::definitions::font_fixed::Operations::IsQuotient;
+#[cfg(doc)]
+use crate::definitions::font_ids::NameId::name_number;
+#[cfg(doc)]
+use crate::definitions::font_tags::Tag::tag_bytes;
+#[cfg(doc)]
+use crate::definitions::variations::Evaluator::HasRange;
+#[cfg(doc)]
+use crate::definitions::variations::Evaluator::HasSegmentMap;
+#[cfg(doc)]
+use crate::definitions::variations::Evaluator::IsFinal;
+#[cfg(doc)]
+use crate::definitions::variations::Evaluator::IsMapped;
+#[cfg(doc)]
+use crate::definitions::variations::Evaluator::IsStoredCoordinate;
+#[cfg(doc)]
+use crate::definitions::variations::Evaluator::ParsesSetting;
+#[cfg(doc)]
+use crate::definitions::variations::Evaluator::segment_map_bytes;
+
 use font_types_proved::{DecimalFault, F2Dot14, Fixed, InvalidTag, NameId, Scalar, Tag};
 
 // ---- settings
 
 /// A user's value on an axis.
+///
+/// The source and its contracts: `crates/variations/src/evaluator.rt`.
 #[derive(Clone, Copy, PartialEq, Debug)]
 pub struct Setting {
     /// The tag of the axis.
@@ -16,6 +47,8 @@ pub struct Setting {
 }
 
 /// Why a text is not a setting.
+///
+/// The source and its contracts: `crates/variations/src/evaluator.rt`.
 #[derive(Clone, PartialEq, Debug)]
 pub enum SettingError {
     /// It has no `=`.
@@ -39,6 +72,14 @@ fn split_setting(text: &str) -> Option<(&str, &str)> {
 ///
 /// Returns the error of the first wrong part: `NoValue` without a `=`, `Axis` if the text before it
 /// is not a tag, `Value` if the text after it is not a decimal in range.
+///
+/// <details><summary>Contract</summary>
+///
+/// ```text
+/// ensures { ParsesSetting text.now result }
+/// ```
+/// [Notation](crate::definitions): [`ParsesSetting`]
+/// </details>
 pub fn read_setting(text: &str) -> Result<Setting, SettingError> {
     let (axis, value) = split_setting(text).ok_or(SettingError::NoValue)?;
     let axis = Tag::new_checked(axis.as_bytes()).map_err(SettingError::Axis)?;
@@ -49,6 +90,8 @@ pub fn read_setting(text: &str) -> Result<Setting, SettingError> {
 // ---- `fvar`: normalized coordinates
 
 /// A variation axis, a record of `fvar`.
+///
+/// The source and its contracts: `crates/variations/src/evaluator.rt`.
 #[derive(Clone, Copy, Debug, PartialEq)]
 pub struct VariationAxisRecord {
     /// The tag of the axis, as `wght`.
@@ -66,6 +109,24 @@ pub struct VariationAxisRecord {
 }
 
 /// Reads an axis of `fvar`, or returns `None` if there are fewer than 20 bytes.
+///
+/// <details><summary>Contract</summary>
+///
+/// ```text
+/// ensures variant { IsSome result ↔ (20 ≤ length bytes.now) }
+/// ensures axis_tag { IfSome result (λ axis. tag_bytes axis.axis_tag ≡ take 4 bytes.now) }
+/// ensures min_value { IfSome result (λ axis.
+///     fixed_bits axis.min_value ≡ signed_numeral 4 (take 4 (drop 4 bytes.now))) }
+/// ensures default_value { IfSome result (λ axis.
+///     fixed_bits axis.default_value ≡ signed_numeral 4 (take 4 (drop 8 bytes.now))) }
+/// ensures max_value { IfSome result (λ axis.
+///     fixed_bits axis.max_value ≡ signed_numeral 4 (take 4 (drop 12 bytes.now))) }
+/// ensures flags { IfSome result (λ axis. axis.flags ≡ numeral (take 2 (drop 16 bytes.now))) }
+/// ensures axis_name_id { IfSome result (λ axis.
+///     name_number axis.axis_name_id ≡ numeral (take 2 (drop 18 bytes.now))) }
+/// ```
+/// [Notation](crate::definitions): [`tag_bytes`], [`fixed_bits`], [`signed_numeral`], [`numeral`], [`name_number`]
+/// </details>
 #[must_use]
 pub fn read_axis(bytes: &[u8]) -> Option<VariationAxisRecord> {
     Some(VariationAxisRecord {
@@ -103,6 +164,42 @@ fn has_range(axis: VariationAxisRecord) -> bool {
 /// Normalizes a value of an axis to -1..1: clamps it to the axis, and divides its distance from the
 /// default by that of the end on its side. Returns `None` unless `min <= default <= max` and 16.16
 /// holds `max - min`.
+///
+/// <details><summary>Contract</summary>
+///
+/// ```text
+/// ensures variant { IsSome result ↔ HasRange (fixed_bits axis.min_value)
+///     (fixed_bits axis.default_value) (fixed_bits axis.max_value) }
+/// ensures default { IfSome result (λ coordinate. fixed_bits value ≡ fixed_bits axis.default_value
+///     → fixed_bits coordinate ≡ pos 0) }
+/// ensures above { IfSome result (λ coordinate. fixed_bits axis.default_value <ℤ fixed_bits value
+///     → fixed_bits value ≤ℤ fixed_bits axis.max_value
+///     → IsQuotient 32 16 (fixed_bits value -ℤ fixed_bits axis.default_value)
+///     (fixed_bits axis.max_value -ℤ fixed_bits axis.default_value) (fixed_bits coordinate)) }
+/// ensures below { IfSome result (λ coordinate. fixed_bits value <ℤ fixed_bits axis.default_value
+///     → fixed_bits axis.min_value ≤ℤ fixed_bits value
+///     → IsQuotient 32 16 (fixed_bits axis.default_value -ℤ fixed_bits value)
+///     (fixed_bits axis.default_value -ℤ fixed_bits axis.min_value)
+///     (neg_ℤ (fixed_bits coordinate))) }
+/// ensures no_rise { IfSome result (λ coordinate.
+///     fixed_bits axis.max_value ≡ fixed_bits axis.default_value
+///     → fixed_bits axis.default_value ≤ℤ fixed_bits value → fixed_bits coordinate ≡ pos 0) }
+/// ensures no_fall { IfSome result (λ coordinate.
+///     fixed_bits axis.min_value ≡ fixed_bits axis.default_value
+///     → fixed_bits value ≤ℤ fixed_bits axis.default_value → fixed_bits coordinate ≡ pos 0) }
+/// ensures max { IfSome result (λ coordinate.
+///     fixed_bits axis.default_value <ℤ fixed_bits axis.max_value
+///     → fixed_bits axis.max_value ≤ℤ fixed_bits value
+///     → fixed_bits coordinate ≡ fixed_bits Fixed.ONE) }
+/// ensures min { IfSome result (λ coordinate.
+///     fixed_bits axis.min_value <ℤ fixed_bits axis.default_value
+///     → fixed_bits value ≤ℤ fixed_bits axis.min_value
+///     → fixed_bits coordinate ≡ fixed_bits Fixed.NEG_ONE) }
+/// ensures low { IfSome result (λ coordinate. fixed_bits Fixed.NEG_ONE ≤ℤ fixed_bits coordinate) }
+/// ensures high { IfSome result (λ coordinate. fixed_bits coordinate ≤ℤ fixed_bits Fixed.ONE) }
+/// ```
+/// [Notation](crate::definitions): [`HasRange`], [`fixed_bits`], [`IsQuotient`]
+/// </details>
 #[must_use]
 pub fn normalize(value: Fixed, axis: VariationAxisRecord) -> Option<Fixed> {
     if has_range(axis) {
@@ -126,6 +223,16 @@ fn normalize_clamped(value: Fixed, axis: VariationAxisRecord) -> Fixed {
 }
 
 /// Clamps a coordinate to -1..1, and rounds it half up to 2.14, as `avar` and tuples store it.
+///
+/// <details><summary>Contract</summary>
+///
+/// ```text
+/// ensures value { IsStoredCoordinate coordinate result }
+/// ensures low { f2dot14_bits F2Dot14.NEG_ONE ≤ℤ f2dot14_bits result }
+/// ensures high { f2dot14_bits result ≤ℤ f2dot14_bits F2Dot14.ONE }
+/// ```
+/// [Notation](crate::definitions): [`IsStoredCoordinate`], [`f2dot14_bits`]
+/// </details>
 #[must_use]
 pub fn to_stored(coordinate: Fixed) -> F2Dot14 {
     coordinate.clamp(Fixed::NEG_ONE, Fixed::ONE).to_f2dot14()
@@ -138,6 +245,15 @@ pub fn to_stored(coordinate: Fixed) -> F2Dot14 {
 ///
 /// The maps of the axes before it are walked. So one call for each axis takes a time that grows as
 /// the square of the number of axes. The version of the table is not read: it has to be 1.
+///
+/// <details><summary>Contract</summary>
+///
+/// ```text
+/// ensures variant { IsSome result ↔ HasSegmentMap avar.now axis }
+/// ensures value { IfSome result (λ map. map.now ≡ segment_map_bytes avar.now axis) }
+/// ```
+/// [Notation](crate::definitions): [`HasSegmentMap`], [`segment_map_bytes`]
+/// </details>
 #[must_use]
 pub fn segment_map(avar: &[u8], axis: u16) -> Option<&[u8]> {
     if axis >= u16::read_at(avar, 6)? {
@@ -196,6 +312,14 @@ fn map_in_segment(coordinate: Fixed, map: &[u8], end: usize) -> Fixed {
 
 /// Maps a coordinate by the mappings of a segment map, the bytes that [`segment_map`] returns. A
 /// coordinate below or above all mappings does not change.
+///
+/// <details><summary>Contract</summary>
+///
+/// ```text
+/// ensures { IsMapped coordinate map.now result }
+/// ```
+/// [Notation](crate::definitions): [`IsMapped`]
+/// </details>
 #[must_use]
 pub fn map_coordinate(coordinate: Fixed, map: &[u8]) -> Fixed {
     match segment_end(coordinate, map) {
@@ -206,6 +330,14 @@ pub fn map_coordinate(coordinate: Fixed, map: &[u8]) -> Fixed {
 
 /// Maps a coordinate from [`normalize`] by the mappings of a segment map, and then rounds it to
 /// 2.14. A font without `avar` has no mappings: `&[]`.
+///
+/// <details><summary>Contract</summary>
+///
+/// ```text
+/// ensures { IsFinal coordinate map.now result }
+/// ```
+/// [Notation](crate::definitions): [`IsFinal`]
+/// </details>
 #[must_use]
 pub fn final_coordinate(coordinate: Fixed, map: &[u8]) -> F2Dot14 {
     to_stored(map_coordinate(coordinate, map))

@@ -2,6 +2,43 @@
 
 //! Item variation stores at the coordinates of an instance.
 
+#[cfg(doc)]
+use crate::definitions::font_fixed::F48Dot16::f48dot16_bits;
+#[cfg(doc)]
+use crate::definitions::font_fixed::Fixed::fixed_bits;
+#[cfg(doc)]
+use crate::definitions::font_ids::FWord::ufword_number;
+#[cfg(doc)]
+use crate::definitions::variations::Advances::HasData;
+#[cfg(doc)]
+use crate::definitions::variations::Advances::HasTarget;
+#[cfg(doc)]
+use crate::definitions::variations::Advances::regions_of;
+#[cfg(doc)]
+use crate::definitions::variations::Advances::subtable_of;
+#[cfg(doc)]
+use crate::definitions::variations::Variations::AreScalars;
+#[cfg(doc)]
+use crate::definitions::variations::Variations::HasNoVaried;
+#[cfg(doc)]
+use crate::definitions::variations::Variations::HasRegion;
+#[cfg(doc)]
+use crate::definitions::variations::Variations::HasSet;
+#[cfg(doc)]
+use crate::definitions::variations::Variations::IsNearAdvance;
+#[cfg(doc)]
+use crate::definitions::variations::Variations::IsNearSetSum;
+#[cfg(doc)]
+use crate::definitions::variations::Variations::IsNoVariation;
+#[cfg(doc)]
+use crate::definitions::variations::Variations::IsRegionScalar;
+#[cfg(doc)]
+use crate::definitions::variations::Variations::IsSetSum;
+#[cfg(doc)]
+use crate::definitions::variations::Variations::IsVaried;
+#[cfg(doc)]
+use crate::definitions::variations::Variations::region_count;
+
 use super::advances::{at_offset, data_of};
 use super::delta_sets::{column_in, row_of};
 use super::maps::{DeltaSetIndex, is_no_variation};
@@ -10,6 +47,18 @@ use font_types_proved::{F2Dot14, F48Dot16, Fixed, Scalar, UfWord};
 
 /// Returns the count that the list of regions of a store has, or `None` if the store has no list
 /// or the list ends before its count. [`StoreInstance::new`] needs at most as many scalars.
+///
+/// <details><summary>Contract</summary>
+///
+/// ```text
+/// ensures variant { IsSome result
+///     ↔ (HasTarget store.now 2 × (4 ≤ length (regions_of store.now))) }
+/// ensures value { IfSome result (λ count. count ≡ region_count (regions_of store.now)) }
+/// ensures enough { IfSome result (λ count. (region : ℕ)
+///     → HasRegion (regions_of store.now) region → region < count) }
+/// ```
+/// [Notation](crate::definitions): [`HasTarget`], [`regions_of`], [`mod@region_count`], [`HasRegion`]
+/// </details>
 #[must_use]
 pub fn region_count(store: &[u8]) -> Option<u16> {
     u16::read_at(at_offset(store, 2)?, 2)
@@ -20,6 +69,16 @@ pub fn region_count(store: &[u8]) -> Option<u16> {
 ///
 /// `new` walks each axis of each region once, which is linear in the bytes of the store. After that
 /// a column of a set takes one product, whatever the number of axes.
+///
+/// The source and its contracts: `crates/variations/src/instances.rt`.
+///
+/// <details><summary>Contract</summary>
+///
+/// ```text
+/// ghost at: { AreScalars (regions_of store.now) coordinates.now scalars.now },
+/// ```
+/// [Notation](crate::definitions): [`AreScalars`], [`regions_of`]
+/// </details>
 #[derive(Clone, Copy, Debug)]
 pub struct StoreInstance<'a> {
     store: &'a [u8],
@@ -30,6 +89,18 @@ pub struct StoreInstance<'a> {
 impl<'a> StoreInstance<'a> {
     /// Computes the scalars of all regions of a store into `scalars`. Returns `None` if the store
     /// has no list of regions, or more regions than `scalars` holds.
+    ///
+    /// <details><summary>Contract</summary>
+    ///
+    /// ```text
+    /// ensures variant { IsSome result ↔ (HasTarget store.now 2
+    ///     × (¬ HasRegion (regions_of store.now) (length scalars.old))) }
+    /// ensures store { IfSome result (λ instance. instance.store.now ≡ store.now) }
+    /// ensures coordinates { IfSome result (λ instance.
+    ///     instance.coordinates.now ≡ coordinates.now) }
+    /// ```
+    /// [Notation](crate::definitions): [`HasTarget`], [`HasRegion`], [`regions_of`]
+    /// </details>
     #[must_use]
     pub fn new(
         store: &'a [u8],
@@ -44,12 +115,32 @@ impl<'a> StoreInstance<'a> {
     }
 
     /// Returns the coordinates.
+    ///
+    /// <details><summary>Contract</summary>
+    ///
+    /// ```text
+    /// ensures { result.now ≡ self.now.coordinates.now }
+    /// ```
+    /// [Notation](crate::definitions)
+    /// </details>
     #[must_use]
     pub fn coordinates(&self) -> &'a [F2Dot14] {
         self.coordinates
     }
 
     /// Returns the scalar of a region, as [`region_scalar`](crate::regions::region_scalar) does.
+    ///
+    /// <details><summary>Contract</summary>
+    ///
+    /// ```text
+    /// ensures variant { IsSome result ↔ HasRegion (regions_of self.now.store.now) region }
+    /// ensures value { IfSome result (λ scalar. IsRegionScalar (regions_of self.now.store.now)
+    ///     region self.now.coordinates.now (fixed_bits scalar)) }
+    /// ensures low { IfSome result (λ scalar. pos 0 ≤ℤ fixed_bits scalar) }
+    /// ensures high { IfSome result (λ scalar. fixed_bits scalar ≤ℤ fixed_bits Fixed.ONE) }
+    /// ```
+    /// [Notation](crate::definitions): [`HasRegion`], [`regions_of`], [`IsRegionScalar`], [`fixed_bits`]
+    /// </details>
     #[must_use]
     pub fn scalar(&self, region: u16) -> Option<Fixed> {
         self.scalars.get(usize::from(region)).copied()
@@ -88,6 +179,24 @@ impl<'a> StoreInstance<'a> {
 
     /// Returns the exact sum of the deltas of a set, each times the scalar of its region: 0 for the
     /// set without variation data, and `None` if the store does not have the set.
+    ///
+    /// <details><summary>Contract</summary>
+    ///
+    /// ```text
+    /// ensures unvaried { IsNoVariation set.outer set.inner
+    ///     → IfSome result (λ sum. f48dot16_bits sum ≡ pos 0) }
+    /// ensures variant { ¬ IsNoVariation set.outer set.inner → IsSome result
+    ///     ↔ (HasData self.now.store.now set.outer set.inner × HasSet (regions_of
+    ///     self.now.store.now) (subtable_of self.now.store.now set.outer) set.inner) }
+    /// ensures value { ¬ IsNoVariation set.outer set.inner → IfSome result (λ sum. IsSetSum
+    ///     (regions_of self.now.store.now) (subtable_of self.now.store.now set.outer)
+    ///     self.now.coordinates.now set.inner (f48dot16_bits sum)) }
+    /// ensures near { ¬ IsNoVariation set.outer set.inner → IfSome result (λ sum. IsNearSetSum
+    ///     (regions_of self.now.store.now) (subtable_of self.now.store.now set.outer)
+    ///     self.now.coordinates.now set.inner (f48dot16_bits sum)) }
+    /// ```
+    /// [Notation](crate::definitions): [`IsNoVariation`], [`f48dot16_bits`], [`HasData`], [`HasSet`], [`regions_of`], [`subtable_of`], [`IsSetSum`], [`IsNearSetSum`]
+    /// </details>
     #[must_use]
     pub fn delta(&self, set: DeltaSetIndex) -> Option<F48Dot16> {
         if is_no_variation(set) {
@@ -104,6 +213,28 @@ impl<'a> StoreInstance<'a> {
 
     /// Varies an advance by a set, as [`varied_by`](crate::advances::varied_by) does at these
     /// coordinates.
+    ///
+    /// <details><summary>Contract</summary>
+    ///
+    /// ```text
+    /// ensures unvaried { IsNoVariation set.outer set.inner → result ≡ Some advance }
+    /// ensures value { ¬ IsNoVariation set.outer set.inner → MatchOption result
+    ///     ((¬ HasData self.now.store.now set.outer set.inner) ⊎ HasNoVaried
+    ///     (regions_of self.now.store.now) (subtable_of self.now.store.now set.outer)
+    ///     self.now.coordinates.now set.inner (ufword_number advance))
+    ///     (λ varied. HasData self.now.store.now set.outer set.inner
+    ///     × HasSet (regions_of self.now.store.now) (subtable_of self.now.store.now set.outer)
+    ///     set.inner
+    ///     × IsVaried (regions_of self.now.store.now) (subtable_of self.now.store.now set.outer)
+    ///     self.now.coordinates.now set.inner (ufword_number advance)
+    ///     (pos (ufword_number varied))) }
+    /// ensures near { ¬ IsNoVariation set.outer set.inner → IfSome result (λ varied.
+    ///     IsNearAdvance (regions_of self.now.store.now) (subtable_of self.now.store.now set.outer)
+    ///     self.now.coordinates.now set.inner (ufword_number advance)
+    ///     (pos (ufword_number varied))) }
+    /// ```
+    /// [Notation](crate::definitions): [`IsNoVariation`], [`HasData`], [`HasNoVaried`], [`regions_of`], [`subtable_of`], [`ufword_number`], [`HasSet`], [`IsVaried`], [`IsNearAdvance`]
+    /// </details>
     #[must_use]
     pub fn varied(&self, advance: UfWord, set: DeltaSetIndex) -> Option<UfWord> {
         if is_no_variation(set) {

@@ -2,9 +2,20 @@
 
 //! Maps from indices to delta sets.
 
+#[cfg(doc)]
+use crate::definitions::variations::Variations::HasEntry;
+#[cfg(doc)]
+use crate::definitions::variations::Variations::IsNoVariation;
+#[cfg(doc)]
+use crate::definitions::variations::Variations::entry_of;
+#[cfg(doc)]
+use crate::definitions::variations::Variations::inner_bits;
+
 use font_types_proved::{Scalar, Uint24};
 
 /// The indices of a delta set: of a subtable, and in it.
+///
+/// The source and its contracts: `crates/variations/src/maps.rt`.
 #[derive(Clone, Copy, PartialEq, Debug)]
 pub struct DeltaSetIndex {
     /// The index of the subtable in the store.
@@ -14,6 +25,14 @@ pub struct DeltaSetIndex {
 }
 
 /// Returns whether the indices are those of an item without variation data.
+///
+/// <details><summary>Contract</summary>
+///
+/// ```text
+/// ensures { IsTrue result ↔ IsNoVariation set.outer set.inner }
+/// ```
+/// [Notation](crate::definitions): [`IsNoVariation`]
+/// </details>
 #[must_use]
 pub fn is_no_variation(set: DeltaSetIndex) -> bool {
     set.outer == 0xFFFF && set.inner == 0xFFFF
@@ -27,6 +46,18 @@ const MAP_ENTRY_SIZE_MASK: u8 = 0x30;
 /// Reads the delta set of an index by a map of format 0 or 1; the last entry is that of all later
 /// indices. Returns `None` for another format or a map of no entries, or if the map ends before the
 /// entry does.
+///
+/// <details><summary>Contract</summary>
+///
+/// ```text
+/// ensures variant { IsSome result ↔ HasEntry map.now index }
+/// ensures outer { IfSome result (λ set.
+///     set.outer ≡ entry_of map.now index / 2 ^ inner_bits map.now) }
+/// ensures inner { IfSome result (λ set.
+///     set.inner ≡ entry_of map.now index % 2 ^ inner_bits map.now) }
+/// ```
+/// [Notation](crate::definitions): [`HasEntry`], [`entry_of`], [`inner_bits`]
+/// </details>
 #[must_use]
 pub fn read_delta_set_index(map: &[u8], index: u32) -> Option<DeltaSetIndex> {
     let (count, start) = match u8::read_at(map, 0)? {

@@ -2,10 +2,29 @@
 
 //! Variation regions: the scalar of each axis, and of a region.
 
+#[cfg(doc)]
+use crate::definitions::font_fixed::F2Dot14::f2dot14_bits;
+#[cfg(doc)]
+use crate::definitions::font_fixed::Fixed::fixed_bits;
+#[cfg(doc)]
+use crate::definitions::variations::Variations::AreScalars;
+#[cfg(doc)]
+use crate::definitions::variations::Variations::HasRegion;
+#[cfg(doc)]
+use crate::definitions::variations::Variations::IsAxisScalar;
+#[cfg(doc)]
+use crate::definitions::variations::Variations::IsIgnored;
+#[cfg(doc)]
+use crate::definitions::variations::Variations::IsNearRegionScalar;
+#[cfg(doc)]
+use crate::definitions::variations::Variations::IsRegionScalar;
+
 use super::evaluator::ratio;
 use font_types_proved::{F2Dot14, Fixed, Scalar};
 
 /// The extent of a region along one axis.
+///
+/// The source and its contracts: `crates/variations/src/regions.rt`.
 #[derive(Clone, Copy, PartialEq, Debug)]
 pub struct RegionAxisCoordinates {
     /// Where the region starts.
@@ -18,6 +37,15 @@ pub struct RegionAxisCoordinates {
 
 /// Returns whether an axis is ignored in a region: its coordinates are out of order or on both
 /// sides of zero, or the peak is zero.
+///
+/// <details><summary>Contract</summary>
+///
+/// ```text
+/// ensures { IsTrue result ↔ IsIgnored (f2dot14_bits axis.start_coord)
+///     (f2dot14_bits axis.peak_coord) (f2dot14_bits axis.end_coord) }
+/// ```
+/// [Notation](crate::definitions): [`IsIgnored`], [`f2dot14_bits`]
+/// </details>
 #[must_use]
 pub fn is_ignored(axis: RegionAxisCoordinates) -> bool {
     let zero = F2Dot14::ZERO;
@@ -28,6 +56,17 @@ pub fn is_ignored(axis: RegionAxisCoordinates) -> bool {
 }
 
 /// Returns the scalar of a region along one axis, from 0 to 1.
+///
+/// <details><summary>Contract</summary>
+///
+/// ```text
+/// ensures value { IsAxisScalar (f2dot14_bits axis.start_coord) (f2dot14_bits axis.peak_coord)
+///     (f2dot14_bits axis.end_coord) (f2dot14_bits coordinate) (fixed_bits result) }
+/// ensures low { pos 0 ≤ℤ fixed_bits result }
+/// ensures high { fixed_bits result ≤ℤ fixed_bits Fixed.ONE }
+/// ```
+/// [Notation](crate::definitions): [`IsAxisScalar`], [`f2dot14_bits`], [`fixed_bits`]
+/// </details>
 #[must_use]
 pub fn axis_scalar(axis: RegionAxisCoordinates, coordinate: F2Dot14) -> Fixed {
     if is_ignored(axis) || coordinate == axis.peak_coord {
@@ -105,6 +144,20 @@ fn find_region(regions: &[u8], region: u16) -> Option<&[u8]> {
 
 /// Returns the scalar of a region, the product of those of its axes, from 0 to 1, or `None` if the
 /// list does not have the region. Axes beyond the coordinates are at their default.
+///
+/// <details><summary>Contract</summary>
+///
+/// ```text
+/// ensures variant { IsSome result ↔ HasRegion regions.now region }
+/// ensures value { IfSome result (λ scalar.
+///     IsRegionScalar regions.now region coordinates.now (fixed_bits scalar)) }
+/// ensures near { IfSome result (λ scalar.
+///     IsNearRegionScalar regions.now region coordinates.now (fixed_bits scalar)) }
+/// ensures low { IfSome result (λ scalar. pos 0 ≤ℤ fixed_bits scalar) }
+/// ensures high { IfSome result (λ scalar. fixed_bits scalar ≤ℤ fixed_bits Fixed.ONE) }
+/// ```
+/// [Notation](crate::definitions): [`HasRegion`], [`IsRegionScalar`], [`fixed_bits`], [`IsNearRegionScalar`]
+/// </details>
 #[must_use]
 pub fn region_scalar(regions: &[u8], region: u16, coordinates: &[F2Dot14]) -> Option<Fixed> {
     let region = find_region(regions, region)?;
@@ -114,6 +167,18 @@ pub fn region_scalar(regions: &[u8], region: u16, coordinates: &[F2Dot14]) -> Op
 
 /// Writes the scalar of each region of a list, in order, and returns how many regions it has, those
 /// that it ends before left out. Returns `None` if there are more of them than `scalars`.
+///
+/// <details><summary>Contract</summary>
+///
+/// ```text
+/// ensures len { length scalars.new ≡ length scalars.old }
+/// ensures variant { IfNone result (HasRegion regions.now (length scalars.old)) }
+/// ensures within { IfSome result (λ count. count ≤ length scalars.old) }
+/// ensures value { IfSome result (λ count.
+///     AreScalars regions.now coordinates.now (take count scalars.new)) }
+/// ```
+/// [Notation](crate::definitions): [`HasRegion`], [`AreScalars`]
+/// </details>
 pub(crate) fn region_scalars(
     regions: &[u8],
     coordinates: &[F2Dot14],
