@@ -33,7 +33,7 @@ OTHERS = (
 COUNTS = [
     ("tests/", ".rs", "#[test]\n", 204),
     ("compare/tests/", ".rs", "#[test]\n", 29),
-    ("crates/", ".rt", "#[test]\n", 152),
+    ("crates/", ".rt", "#[test]\n", 149),
     ("tools/tests/", ".py", "\n    def test_", 23),
     ("tests/", ".rs", "#[ignore", 0),
     ("compare/tests/", ".rs", "#[ignore", 0),
@@ -41,8 +41,8 @@ COUNTS = [
     ("tests/", ".rs", "return;", 0),
     ("tests/", ".rs", "/*", 0),
     ("crates/", ".rt", "\nmod ", 111),
-    ("crates/", ".edit", "# clause: ", 281),
-    ("crates/", ".edit", "# control: ", 73),
+    ("crates/", ".edit", "# clause: ", 269),
+    ("crates/", ".edit", "# control: ", 69),
     ("crates/fontval/", "stdin", "\n", 213),
     ("c/tests/", ".sh", "\n", 411),
 ]

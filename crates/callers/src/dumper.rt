@@ -33,8 +33,6 @@ pub fn row(numbers: &[Fixed], width: usize, alloc: Global) -> Result<Vec<u8>, Al
     Ok(row)
 }
 
-// ---- texts
-
 // ---- JSON
 
 /// The fields of an axis that a dump shows.

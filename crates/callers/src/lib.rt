@@ -2,22 +2,16 @@
 //! proved against the contract that its caller wants.
 //!
 //! - `start`: a first caller, which docs/CALLING.md shows.
-//! - `reader`: tables, as `head`, `hmtx`, `kern` and coverage.
-//! - `writer`: fields, headers, and a `loca` of 16-bit offsets.
-//! - `packed`: packed deltas, as in `gvar` and `cvar`.
-//! - `scaler`: outlines through a chain of matrices.
-//! - `hinting`: the grid, positions between two others, and a range.
+//! - `reader`: a table's bytes, header and records, as of `VORG`.
+//! - `scaler`: points through two matrices, and numbers on a grid.
 //! - `linter`: tags and the records of a table directory.
-//! - `dumper`: numbers in columns, raw values in hexadecimal, JSON.
+//! - `dumper`: numbers in columns, and JSON.
 #![tactic(auto, using(font_types::proofs::Callers::calls))]
 
 pub mod dumper;
-pub mod hinting;
 pub mod linter;
-pub mod packed;
 pub mod reader;
 pub mod scaler;
 pub mod start;
 #[cfg(test)]
 mod tests;
-pub mod writer;

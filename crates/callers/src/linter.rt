@@ -2,11 +2,13 @@
 
 ghost use Rattle.std.specs.List.Sorted.{IsPermutation, IsSortedByKey};
 ghost use Rattle.std.specs.List.{AllAdjacentBelow, sum_by};
-ghost use Rattle.std.specs.Prelude.{◌≡◌, ◌↔◌, ◌<◌, ◌%◌, ◌^◌, All, IsTrue, MatchResult, length, sum};
-ghost use Rattle.font_types.specs.{Array.array_elements, Bytes.numeral, Tag.tag_bytes, Tag.IsGood};
+ghost use Rattle.std.specs.Prelude.{◌≡◌, ◌↔◌, ◌≤◌, ◌+◌, ◌%◌, ◌^◌, All, IsTrue, MatchResult, length};
+ghost use Rattle.std.specs.Prelude.{IsSome, IfSome, IfNone, take, drop, pos};
+ghost use Rattle.font_types.specs.{Array.array_elements, Bytes.numeral, Bytes.bytes_of};
+ghost use Rattle.font_types.specs.Tag.{tag_bytes, IsGood};
 ghost use Rattle.callers.specs.Linter.{IsFirstBad};
 
-use font_types::{InvalidTag, Offset32, ScalarArray, Tag};
+use font_types::{InvalidTag, Offset32, Scalar, ScalarArray, Tag};
 use std::cmp::Ordering;
 use thiserror::Error;
 
@@ -82,4 +84,23 @@ pub fn checksum(words: ScalarArray<'_, u32>) -> u32
         total = total.wrapping_add(word);
     }
     total
+}
+
+/// Writes two fields at an offset: the checksum and the offset of a table into its record, or
+/// returns `None` if the directory ends before them.
+///
+/// The last field is written first: if it has no room, nothing has been written.
+#[tactic(auto, using(font_types::proofs::Callers::calls, font_types::proofs::Callers::writes))]
+pub fn mend_record(directory: &mut [u8], at: usize, checksum: u32, offset: u32) -> Option<()>
+    ensures variant { IsSome result ↔ (at + 12 ≤ length directory.old) }
+    ensures before { take (at + 4) directory.new ≡ take (at + 4) directory.old }
+    ensures checksum { IfSome result (λ _.
+        take 4 (drop (at + 4) directory.new) ≡ bytes_of 4 (pos checksum)) }
+    ensures offset { IfSome result (λ _.
+        take 4 (drop (at + 8) directory.new) ≡ bytes_of 4 (pos offset)) }
+    ensures after { drop (at + 12) directory.new ≡ drop (at + 12) directory.old }
+    ensures kept { IfNone result (directory.new ≡ directory.old) }
+{
+    offset.write_at(directory, at.checked_add(8)?)?;
+    checksum.write_at(directory, at + 4)
 }
