@@ -165,8 +165,8 @@ impl<T: MatrixElement> Matrix<T> {
         }
     }
 
-    /// Returns `(xx * x + xy * y + dx, yx * x + yy * y + dy)`, the image of the point `(x, y)`, by the
-    /// operators of the elements: those of [`Fixed`] wrap on overflow.
+    /// Returns `(xx * x + xy * y + dx, yx * x + yy * y + dy)`, the image of the point `(x, y)`, by
+    /// the operators of the elements: those of [`Fixed`] wrap on overflow.
     pub fn transform(&self, x: T, y: T) -> (T, T)
         requires { CanTransform T.can_mul T.mul_gives T.can_add T.add_gives self.now x y }
         ensures { IsTransformed T.mul_gives T.add_gives self.now x y result.0 result.1 }
@@ -179,8 +179,8 @@ impl<T: MatrixElement> Matrix<T> {
 }
 
 impl Matrix<Fixed> {
-    /// Returns the image of the point `(x, y)`, as [`transform`](Self::transform) does, or `None` if
-    /// one of its coordinates overflows. Intermediate sums may overflow.
+    /// Returns the image of the point `(x, y)`, as [`transform`](Self::transform) does, or `None`
+    /// if one of its coordinates overflows. Intermediate sums may overflow.
     pub const fn checked_transform(&self, x: Fixed, y: Fixed) -> Option<(Fixed, Fixed)>
         ensures variant { IsSome result ↔ FitsPoint
             (rounded_image (matrix_bits self.now) (point_bits (record { x = x; y = y }))) }

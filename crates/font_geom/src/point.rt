@@ -11,9 +11,9 @@ use std::ops::{Add, AddAssign, Div, DivAssign, Mul, MulAssign, Neg, Sub, SubAssi
 /// A two-dimensional point.
 ///
 /// Each operator applies that of the coordinates. So over fixed-point numbers a sum wraps on
-/// overflow, and a product or a quotient is rounded and wraps; `checked_add` and `checked_sub` return
-/// `None` instead. Over std's integers an overflow panics in a debug build and wraps in a release
-/// build, and a division by zero panics.
+/// overflow, and a product or a quotient is rounded and wraps; `checked_add` and `checked_sub`
+/// return `None` instead. Over std's integers an overflow panics in a debug build and wraps in a
+/// release build, and a division by zero panics.
 ///
 /// ```
 /// use font_types::Point;
@@ -63,7 +63,8 @@ impl<T> Point<T> {
 impl<const F: u32> Point<FixedI32<F>> {
     /// Adds coordinate by coordinate, or returns `None` if one overflows.
     pub const fn checked_add(self, other: Self) -> Option<Self>
-        ensures variant { IsSome result ↔ (FitsBits 32 (bits_of self.entry.x +ℤ bits_of other.entry.x)
+        ensures variant { IsSome result
+            ↔ (FitsBits 32 (bits_of self.entry.x +ℤ bits_of other.entry.x)
             × FitsBits 32 (bits_of self.entry.y +ℤ bits_of other.entry.y)) }
         ensures value { IfSome result (λ sum.
             (bits_of sum.x ≡ (bits_of self.entry.x +ℤ bits_of other.entry.x))
@@ -77,7 +78,8 @@ impl<const F: u32> Point<FixedI32<F>> {
 
     /// Subtracts coordinate by coordinate, or returns `None` if one overflows.
     pub const fn checked_sub(self, other: Self) -> Option<Self>
-        ensures variant { IsSome result ↔ (FitsBits 32 (bits_of self.entry.x -ℤ bits_of other.entry.x)
+        ensures variant { IsSome result
+            ↔ (FitsBits 32 (bits_of self.entry.x -ℤ bits_of other.entry.x)
             × FitsBits 32 (bits_of self.entry.y -ℤ bits_of other.entry.y)) }
         ensures value { IfSome result (λ rest.
             (bits_of rest.x ≡ (bits_of self.entry.x -ℤ bits_of other.entry.x))

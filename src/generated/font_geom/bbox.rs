@@ -42,8 +42,9 @@ pub struct BoundingBox<T> {
 impl<T: Mul<Output = T> + Copy> BoundingBox<T> {
     /// Multiplies each coordinate by `factor`.
     ///
-    /// A negative factor swaps minimum and maximum: call `normalize` afterwards. Each product rounds,
-    /// wraps or panics as `*` of the type does: over `Fixed`, a coordinate that leaves 32 bits wraps.
+    /// A negative factor swaps minimum and maximum: call `normalize` afterwards. Each product
+    /// rounds, wraps or panics as `*` of the type does: over `Fixed`, a coordinate that leaves 32
+    /// bits wraps.
     ///
     /// <details><summary>Contract</summary>
     ///

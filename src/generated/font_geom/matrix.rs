@@ -202,8 +202,8 @@ impl<T: MatrixElement> Matrix<T> {
         Self { xx: T::ONE, yx: T::ZERO, xy: T::ZERO, yy: T::ONE, dx: T::ZERO, dy: T::ZERO }
     }
 
-    /// Returns `(xx * x + xy * y + dx, yx * x + yy * y + dy)`, the image of the point `(x, y)`, by the
-    /// operators of the elements: those of [`Fixed`] wrap on overflow.
+    /// Returns `(xx * x + xy * y + dx, yx * x + yy * y + dy)`, the image of the point `(x, y)`, by
+    /// the operators of the elements: those of [`Fixed`] wrap on overflow.
     ///
     /// <details><summary>Contract</summary>
     ///
@@ -221,8 +221,8 @@ impl<T: MatrixElement> Matrix<T> {
 }
 
 impl Matrix<Fixed> {
-    /// Returns the image of the point `(x, y)`, as [`transform`](Self::transform) does, or `None` if
-    /// one of its coordinates overflows. Intermediate sums may overflow.
+    /// Returns the image of the point `(x, y)`, as [`transform`](Self::transform) does, or `None`
+    /// if one of its coordinates overflows. Intermediate sums may overflow.
     ///
     /// <details><summary>Contract</summary>
     ///

@@ -17,9 +17,9 @@ use core::ops::{Add, AddAssign, Div, DivAssign, Mul, MulAssign, Neg, Sub, SubAss
 /// A two-dimensional point.
 ///
 /// Each operator applies that of the coordinates. So over fixed-point numbers a sum wraps on
-/// overflow, and a product or a quotient is rounded and wraps; `checked_add` and `checked_sub` return
-/// `None` instead. Over std's integers an overflow panics in a debug build and wraps in a release
-/// build, and a division by zero panics.
+/// overflow, and a product or a quotient is rounded and wraps; `checked_add` and `checked_sub`
+/// return `None` instead. Over std's integers an overflow panics in a debug build and wraps in a
+/// release build, and a division by zero panics.
 ///
 /// ```
 /// use font_types_proved::Point;
@@ -94,7 +94,8 @@ impl<const F: u32> Point<FixedI32<F>> {
     /// <details><summary>Contract</summary>
     ///
     /// ```text
-    /// ensures variant { IsSome result ↔ (FitsBits 32 (bits_of self.entry.x +ℤ bits_of other.entry.x)
+    /// ensures variant { IsSome result
+    ///     ↔ (FitsBits 32 (bits_of self.entry.x +ℤ bits_of other.entry.x)
     ///     × FitsBits 32 (bits_of self.entry.y +ℤ bits_of other.entry.y)) }
     /// ensures value { IfSome result (λ sum.
     ///     (bits_of sum.x ≡ (bits_of self.entry.x +ℤ bits_of other.entry.x))
@@ -116,7 +117,8 @@ impl<const F: u32> Point<FixedI32<F>> {
     /// <details><summary>Contract</summary>
     ///
     /// ```text
-    /// ensures variant { IsSome result ↔ (FitsBits 32 (bits_of self.entry.x -ℤ bits_of other.entry.x)
+    /// ensures variant { IsSome result
+    ///     ↔ (FitsBits 32 (bits_of self.entry.x -ℤ bits_of other.entry.x)
     ///     × FitsBits 32 (bits_of self.entry.y -ℤ bits_of other.entry.y)) }
     /// ensures value { IfSome result (λ rest.
     ///     (bits_of rest.x ≡ (bits_of self.entry.x -ℤ bits_of other.entry.x))
