@@ -1,16 +1,17 @@
 -- How far rounded scalars, their products and their sums are off the exact ones.
-use Rattle.std.proofs.Common.{◌≡◌, ◌∙◌, refl, ap, lit<, ℕ, suc, ◌+◌, ◌*◌, ◌≤◌, ◌<◌, ◌⊎◌, Bool, true, false, ℤ, pos}
-use Rattle.std.proofs.Common.{negsuc, ◌+ℤ◌, ◌-ℤ◌, ◌*ℤ◌, ◌≤ℤ◌, ◌<ℤ◌, unsigned_abs, int_lt, int_le, arith, Decides}
-use Rattle.std.proofs.Common.{mul-le-mul_right, ⊎_elim, inl, inr, if◌then◌else◌, ◌||◌}
+use Rattle.std.proofs.Common.{◌≡◌, ◌∙◌, refl, ap, lit<, ℕ, suc, ◌+◌, ◌*◌, ◌≤◌, ◌<◌, Bool, true, false, ℤ, pos, negsuc}
+use Rattle.std.proofs.Common.{◌+ℤ◌, ◌-ℤ◌, ◌*ℤ◌, ◌≤ℤ◌, ◌<ℤ◌, unsigned_abs, int_lt, int_le, arith, mul-le-mul_right}
+use Rattle.std.proofs.Common.{⊎_elim, inl, inr, if◌then◌else◌, ◌||◌}
 use Rattle.std.proofs.lemmas.Int.{ints, by_lt_z}
-use Rattle.std.proofs.lemmas.Bool.Decides.{Decides-or, Decides-int_eq, not_from_Decides, nat_tests}
+use Rattle.std.proofs.lemmas.Bool.Decides.{not_from_Decides, nat_tests}
 use Rattle.std.specs.Ordering.{int_eq}
 use borrow.Author.Differences.{up as above, down as below, sum_is_lem, product_is}
 use Rattle.font_types.specs.Operations.{IsProduct, IsQuotient, IsWrappedNear}
 use Rattle.font_types.specs.{Wrap.FitsBits, Near.Near, Near.up}
 use Rattle.font_types.proofs.Callers.{near_is, near_monotone, product_near, wrap-fits}
-use Rattle.variations.specs.Variations.{Fraction, whole, part_of, times, plus, IsOffBy, IsIgnored, IsOffRegion}
-use Rattle.variations.specs.Variations.{IsAxisScalar, is_ignored_axis, exact_axis_scalar}
+use Rattle.variations.specs.Variations.{Fraction, whole, part_of, times, plus, IsOffBy, IsAxisScalar, is_ignored_axis}
+use Rattle.variations.specs.Variations.{exact_axis_scalar}
+use Rattle.variations.proofs.Scalars.{less, at_one, off}
 
 -- a raw value from 0 to 65536, off a fraction from 0 to 1
 pub record IsPartOff (halves : ℕ) (raw : ℤ) (exact : Fraction) : Type 0 where
@@ -66,40 +67,26 @@ part_is : (part way raw : ℤ) → pos 0 ≤ℤ part → part ≤ℤ way → pos
     → IsPartOff 1 raw (part_of part way)
 part_is part way raw from to some given = grind (arith, quotient_off)
 
-less : (a b : ℤ) → Decides (int_lt a b) (a <ℤ b)
-less a b = (λ e. grind (arith, ints), λ h. grind (arith, ints))
-
-at_most : (a b : ℤ) → Decides (int_le a b) (a ≤ℤ b)
-at_most a b = (λ e. grind (arith, ints), λ h. grind (arith, ints))
-
 module _ (start peak end coordinate raw : ℤ) (given : IsAxisScalar start peak end coordinate raw) where
-  ignored : Decides (is_ignored_axis start peak end) (IsIgnored start peak end)
-  ignored = grind arith
-
-  at_one : Decides (is_ignored_axis start peak end || int_eq coordinate peak)
-      (IsIgnored start peak end ⊎ (coordinate ≡ peak))
-  at_one = Decides-or _ _ ignored (Decides-int_eq coordinate peak)
-
-  off : Decides (int_le coordinate start || int_le end coordinate) (IsOffRegion start end coordinate)
-  off = Decides-or _ _ (at_most coordinate start) (at_most end coordinate)
-
   by : (one outside rising : Bool) → (is_ignored_axis start peak end || int_eq coordinate peak) ≡ one
       → (int_le coordinate start || int_le end coordinate) ≡ outside → int_lt coordinate peak ≡ rising
       → IsPartOff 1 raw (if one then whole (pos 1) else (if outside then whole (pos 0)
       else (if rising then part_of (coordinate -ℤ start) (peak -ℤ start)
       else part_of (end -ℤ coordinate) (end -ℤ peak))))
-  by true outside rising one _ _ = whole_is 1 raw (omega arith) (⊎_elim given.ignored given.at_peak (at_one.0 one))
+  by true outside rising one _ _ =
+      whole_is 1 raw (omega arith) (⊎_elim given.ignored given.at_peak ((at_one start peak end coordinate).0 one))
   by false true rising one outside _ =
-      let away = not_from_Decides _ at_one one in
-      whole_is 0 raw (omega arith) (given.outside (λ i. away (inl i)) (λ e. away (inr e)) (off.0 outside))
+      let away = not_from_Decides _ (at_one start peak end coordinate) one in
+      whole_is 0 raw (omega arith) (given.outside (λ i. away (inl i)) (λ e. away (inr e))
+      ((off start peak end coordinate).0 outside))
   by false false true one outside up_to =
-      let away = not_from_Decides _ at_one one in
-      let inside = not_from_Decides _ off outside in
+      let away = not_from_Decides _ (at_one start peak end coordinate) one in
+      let inside = not_from_Decides _ (off start peak end coordinate) outside in
       let before : coordinate <ℤ peak = (less coordinate peak).0 up_to in
       let after : start <ℤ coordinate = by_lt_z start coordinate (λ h. h) (λ h. absurd (inside (inl h))) in
       part_is (coordinate -ℤ start) (peak -ℤ start) raw (omega (arith, ints, after)) (omega (arith, ints, before))
       (omega (arith, ints, after, before)) (given.rising (λ i. away (inl i)) after before)
-  by false false false one outside up_to = grind (arith, nat_tests, ints, off, part_is)
+  by false false false one outside up_to = grind (arith, nat_tests, ints, off start peak end coordinate, part_is)
 
 pub axis_off : (start peak end coordinate raw : ℤ) → IsAxisScalar start peak end coordinate raw
     → IsPartOff 1 raw (exact_axis_scalar start peak end coordinate)

@@ -30,7 +30,7 @@ quotient_gives x (negsuc c) some = absurd (omega (arith, ints, some))
 
 -- ---- one axis
 
-less : (a b : ℤ) → Decides (int_lt a b) (a <ℤ b)
+pub less : (a b : ℤ) → Decides (int_lt a b) (a <ℤ b)
 less a b = (λ e. grind (arith, ints), λ h. grind (arith, ints))
 
 at_most : (a b : ℤ) → Decides (int_le a b) (a ≤ℤ b)
@@ -40,11 +40,11 @@ module _ (start peak end coordinate : ℤ) where
   ignored : Decides (is_ignored_axis start peak end) (IsIgnored start peak end)
   ignored = grind arith
 
-  at_one : Decides (is_ignored_axis start peak end || int_eq coordinate peak)
+  pub at_one : Decides (is_ignored_axis start peak end || int_eq coordinate peak)
       (IsIgnored start peak end ⊎ (coordinate ≡ peak))
   at_one = Decides-or _ _ ignored (Decides-int_eq coordinate peak)
 
-  off : Decides (int_le coordinate start || int_le end coordinate) (IsOffRegion start end coordinate)
+  pub off : Decides (int_le coordinate start || int_le end coordinate) (IsOffRegion start end coordinate)
   off = Decides-or _ _ (at_most coordinate start) (at_most end coordinate)
 
   -- a peak that is not ignored is between start and end
