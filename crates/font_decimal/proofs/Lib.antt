@@ -6,7 +6,6 @@ pub mod Order
 pub mod Padded
 pub mod Printed
 pub mod Again
-pub mod Columns
 pub mod Buffer
 mod Digits
 mod Rounding

@@ -1,8 +1,8 @@
 -- A decimal text has its parts in one way only, and so is one number.
 use Rattle.std.proofs.Common.{◌≡◌, ℕ, ◌<◌, Bool, true, false, List, [], ◌∷◌, ◌++◌, length, ℤ, refl, sym, ap, arith}
-use Rattle.std.proofs.Common.{IsAscii, IsUtf8}
-use Rattle.std.proofs.{lemmas.Bool.Decides.nat_tests, lemmas.Str.IsAscii-append, lemmas.Str.IsUtf8-from_ascii}
-use Rattle.std.proofs.{lemmas.Str.Ascii.IsAscii-cons, lemmas.Str.Ascii.IsAscii-nil, lemmas.Fmt.IsAscii-from_digits}
+use Rattle.std.proofs.Common.{IsAscii}
+use Rattle.std.proofs.{lemmas.Bool.Decides.nat_tests, lemmas.Str.IsAscii-append, lemmas.Str.Ascii.IsAscii-cons}
+use Rattle.std.proofs.{lemmas.Str.Ascii.IsAscii-nil, lemmas.Fmt.IsAscii-from_digits}
 use Rattle.std.specs.{Fmt.sign_text, Str.Parse.digits_value, Str.Parse.AllDigits, Char.digit_value}
 use Rattle.font_decimal.specs.{Near.signed, Grammar.fraction_text, Grammar.HasParts, Grammar.Decimal}
 
@@ -64,6 +64,3 @@ decimal_is_ascii text n k d =
     rw p.written (IsAscii-append _ _ (ascii_sign d.negative)
     (IsAscii-append _ _ (IsAscii-from_digits d.whole p.whole_digits.1)
     (ascii_point d.fraction p.fraction_digits)))
-
-pub decimal_is_utf8 : (text : List ℕ) (n : ℤ) (k : ℕ) → Decimal text n k → IsUtf8 text
-decimal_is_utf8 text n k d = IsUtf8-from_ascii text (decimal_is_ascii text n k d)

@@ -17,12 +17,11 @@ pub use Rattle.font_base.specs.Wrap.Laws.{wrap_is, wrap_unique, wrap-fits}
 pub use Rattle.font_base.specs.Bytes.Laws.{bytes_of_is, bytes_of_are, bytes_unique, bytes_of-same, numeral_below}
 pub use Rattle.font_decimal.proofs.Near.{near_is, near_unique, near_monotone, up_is, up_monotone}
 pub use Rattle.font_decimal.proofs.Readings.{reading_unique}
-pub use Rattle.font_decimal.proofs.Texts.{decimal_is_ascii, decimal_is_utf8, decimal_unique}
+pub use Rattle.font_decimal.proofs.Texts.{decimal_is_ascii, decimal_unique}
 pub use Rattle.font_decimal.proofs.Order.{order_of_readings}
 pub use Rattle.font_decimal.proofs.Printed.{shortest_is}
 pub use Rattle.font_decimal.proofs.Printed.{printed_is_read, printed_reads_once, same_value, printed_is_not_minus_zero}
 pub use Rattle.font_decimal.proofs.Printed.{zero_ends_no_fraction}
-pub use Rattle.font_decimal.proofs.Columns.{trimmed_column}
 pub use Rattle.font_fixed.proofs.Small.{product_near}
 pub use Rattle.font_fixed.proofs.Orders
 pub use Rattle.font_fixed.proofs.Group
@@ -33,11 +32,9 @@ pub use Rattle.font_geom.proofs.FixedCalls.{product_value, image_value}
 pub use Rattle.font_geom.proofs.Bounds.{fits_composed, fits_in_turn}
 pub use Rattle.font_geom.proofs.RingCalls
 pub use Rattle.font_geom.proofs.RingMatrices
-pub use Rattle.font_types.proofs.Searches.{found_by_number}
 pub use Rattle.font_types.proofs.SumCalls.{running_total, running_total_from}
 pub use Rattle.font_tags.proofs.VersionText.{hex_padded}
 pub use Rattle.font_types.proofs.Parts.{quotient_of_widened}
-pub use Rattle.font_types.proofs.Writes.{written_on}
 pub use Rattle.font_types.specs.Json.Laws.{fixed_form, signed_form, unsigned_form, tag_form, version_form_of}
 
 -- numbers that fit, sums with 0, products with 0 and 1, quotients, and `mul_div`

@@ -1,13 +1,11 @@
--- The results of searches, in the form of their callers' goals: in an array of glyph ids, and among records sorted by
--- a number.
+-- The results of searches in arrays of glyph ids and of 16-bit numbers, in the form of their callers' goals.
 use Rattle.std.proofs.Common.{◌≡◌, ◌≢◌, ◌<◌, ◌≤◌, ◌^◌, ℕ, pos, nat_lt, refl, List, Result, IfOk, IfErr, IfSome, IfNone}
 use Rattle.std.proofs.Common.{MatchResult, arith}
-use Rattle.std.specs.{Result.result_ok, List.All, List.HoldsAt, List.Sorted.IsSortedByKey}
-use Rattle.std.specs.{List.Sorted.IsBinarySearchResult, Ordering.nat_cmp, declared.cmp.Ordering.TheVariants.Equal}
+use Rattle.std.specs.{Result.result_ok, Ordering.nat_cmp, declared.cmp.Ordering.TheVariants.Equal}
 use Rattle.font_base.specs.Bytes.{numeral, bytes_of}
 use Rattle.font_base.specs.Elements.{element, StoresOne, Rises, Splits}
-use Rattle.font_base.proofs.ScalarCalls.{absent, array_calls, number_found, numeral_found, number_absent}
-use Rattle.font_base.proofs.ScalarCalls.{IsSearchedWord, word_numeral, word_absent}
+use Rattle.font_base.proofs.ScalarCalls.{array_calls, number_found, numeral_found, number_absent, IsSearchedWord}
+use Rattle.font_base.proofs.ScalarCalls.{word_numeral, word_absent}
 use Rattle.font_ids.specs.{declared.glyph_id.GlyphId16.GlyphId16, GlyphId.glyph16_number}
 
 module _ (bytes : List ℕ) (n : ℕ) (key : GlyphId16) (result : Result ℕ ℕ) where
@@ -75,9 +73,3 @@ pub ruleset search_calls = (
   word_numeral_some,
   word_absent_none,
 )
-
--- if elements are sorted by their numbers, a search returns the index of one with the number, or no element has it
-pub found_by_number : {X : Type 0} (number_of : X → ℕ) (xs : List X) (n : ℕ) (result : Result ℕ ℕ)
-    → IsSortedByKey number_of nat_cmp xs → IsBinarySearchResult (λ x. nat_cmp (number_of x) n) xs result
-    → MatchResult result (HoldsAt (λ x. number_of x ≡ n) xs) (λ _. All (λ x. number_of x ≢ n) xs)
-found_by_number number_of xs n v3 sorted searched = grind (arith, absent)

@@ -1,6 +1,6 @@
 -- The bytes of a table outside of a field that is written: those of other fields are as they were.
-use Rattle.std.proofs.Common.{◌≡◌, ◌∙◌, sym, ap, ℕ, ◌+◌, ◌-◌, ◌≤◌, ◌++◌, List, take, drop, arith, refl}
-use Rattle.std.proofs.{Math.Seq.take-add, lemmas.List.take-take, lemmas.List.drop-drop, lemmas.List.drop-take}
+use Rattle.std.proofs.Common.{◌≡◌, ◌∙◌, sym, ap, ℕ, ◌+◌, ◌-◌, ◌≤◌, List, take, drop, arith, refl}
+use Rattle.std.proofs.{lemmas.List.take-take, lemmas.List.drop-drop, lemmas.List.drop-take}
 
 dropped_on : (end m : ℕ) (xs : List ℕ) → end ≤ m → drop (m - end) (drop end xs) ≡ drop m xs
 dropped_on end m xs within = grind (arith, drop-drop)
@@ -31,9 +31,4 @@ module _ (end : ℕ) (old new kept : List ℕ) where
 pub rest_same : (end m : ℕ) (old new : List ℕ) → drop end new ≡ drop end old → end ≤ m → drop m new ≡ drop m old
 rest_same end m old new same within = rest_kept end old new (drop m old) m same within refl
 
--- the bytes up to the end of a field that is written after the others
-pub written_on : (at n end : ℕ) (old new start field : List ℕ) → end ≡ at + n → take at new ≡ take at old
-    → take at old ≡ start → take n (drop at new) ≡ field → take end new ≡ start ++ field
-written_on at n end old new start field sum same begins is = grind (arith, take-add)
-
-pub ruleset write_calls = (start_kept, field_kept_before, rest_kept, field_kept_after, rest_same, written_on)
+pub ruleset write_calls = (start_kept, field_kept_before, rest_kept, field_kept_after, rest_same)
