@@ -10,10 +10,14 @@ NUMBERS = (
 )
 EDITS = [
     (r"^impl(<[^>]*>)? FixedSize for (?!BigEndian)\S+ \{.*?^\}\n", "", 25),
-    (r"pub trait FixedSize: Sized", r"""impl<T: Scalar> FixedSize for T {
+    (
+        r"pub trait FixedSize: Sized",
+        r"""impl<T: Scalar> FixedSize for T {
     const RAW_BYTE_LEN: usize = <T::Raw as BeByteArray>::LEN;
 }
-\g<0>""", 1),
+\g<0>""",
+        1,
+    ),
     (r"^/// The raw bytes of an array: .*?(?=^/// What a field of a)", "", 1),
     (r"pub trait Scalar: FixedSize", "pub trait Scalar: Sized", 1),
     (r"\{BeByteArray, ByteChunks, Scalar\}", "{BeByteArray, ByteChunks, FixedSize, Scalar}", 1),

@@ -67,8 +67,10 @@ def is_type(pattern, tree, bound, closures={}):
     # Rattle counts associated types too, after the parameters of a type.
     is_one = name == RENAMED.get(kind, kind) and len(tree) <= len(pattern)
     is_whole = len(tree) == len(pattern) or name[0].isalpha()
-    return is_one and is_whole and all(
-        is_type(a, b, bound, closures) for a, b in zip(pattern[1:], tree[1:])
+    return (
+        is_one
+        and is_whole
+        and all(is_type(a, b, bound, closures) for a, b in zip(pattern[1:], tree[1:]))
     )
 
 
