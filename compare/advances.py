@@ -11,10 +11,10 @@ from fontTools.varLib.varStore import VarStoreInstancer
 
 path, text, *settings = sys.argv[1:]
 font = TTFont(path)
-settings = dict(setting.split("=") for setting in settings)
+given = dict(setting.split("=") for setting in settings)
 location = {}
 for axis in font["fvar"].axes:
-    value = float(settings.get(axis.axisTag, axis.defaultValue))
+    value = float(given.get(axis.axisTag, axis.defaultValue))
     at = normalizeValue(value, (axis.minValue, axis.defaultValue, axis.maxValue))
     if "avar" in font:
         at = piecewiseLinearMap(at, font["avar"].segments[axis.axisTag])

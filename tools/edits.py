@@ -12,7 +12,10 @@ class Edit:
 
     def __init__(self, path: Path) -> None:
         text = path.read_text()
-        lines = lambda head: re.findall(rf"^{head}: (.*)$", text, re.MULTILINE)
+
+        def lines(head: str) -> list[str]:
+            return re.findall(rf"^{head}: (.*)$", text, re.MULTILINE)
+
         self.path, self.name = path, f"{path.parts[-3]}/{path.name}"
         (self.file,) = {path.parents[1] / it for it in lines("file")}
         self.function, *self.clauses = lines("# clause")[0].split(", ")
@@ -21,4 +24,5 @@ class Edit:
 
 
 def edits(root: Path = ROOT, crate: str = "*") -> list[Edit]:
+    """Returns the edits of a crate, or of all crates."""
     return [Edit(it) for it in sorted(root.glob(f"crates/{crate}/must-fail/*.edit"))]

@@ -7,23 +7,31 @@ import random
 import re
 import sys
 from pathlib import Path
+from typing import Any, NamedTuple
 
 SOURCES = Path(__file__).resolve().parents[1] / "src/generated/font_c"
 EXPORT = re.compile(r'extern "C" fn (\w+)\(([^)]*)\)(?: -> (\w+))? \{')
 ROOM, SIZES = 64, {"u8": 1, "i32": 4, "FontPoint": 8}
-TYPES = {f"i{bits}": getattr(ctypes, f"c_int{bits}") for bits in (16, 32, 64)}
+TYPES: dict[str, Any] = {f"i{bits}": getattr(ctypes, f"c_int{bits}") for bits in (16, 32, 64)}
 TYPES |= {f"u{bits}": getattr(ctypes, f"c_uint{bits}") for bits in (16, 32)}
 for name, count in (("FontMatrix", 6), ("FontPoint", 2)):
     fields = [(f"field_{n}", ctypes.c_int32) for n in range(count)]
     TYPES[name] = type(name, (ctypes.Structure,), {"_fields_": fields})
 
 
-def integer():
+class Export(NamedTuple):
+    name: str
+    parameters: str
+    result: str
+
+
+def integer() -> int:
+    """Returns an integer of any width, often one at which results change."""
     few = random.getrandbits(random.choice([3, 8, 17, 33, 64]))
     return random.choice([0, 1, -1, 1 << 31, (1 << 31) - 1, 1 << 63, few, -few])
 
 
-def memory(name, of):
+def memory(name: str, of: str) -> ctypes.Array[ctypes.c_uint8]:
     """Returns memory with a decimal, a `FontPad`, or any bytes."""
     found = random.randbytes(ROOM)
     if name == "text" and random.random() < 0.9:
@@ -33,9 +41,10 @@ def memory(name, of):
     return (ctypes.c_uint8 * ROOM).from_buffer_copy(found.ljust(ROOM, b"\0"))
 
 
-def arguments(parameters):
+def arguments(parameters: list[tuple[str, str]]) -> list[Any]:
     """Returns what both get. A length is that of the slice before it, of the elements or fewer."""
-    found, most = [], 0
+    found: list[Any] = []
+    most = 0
     for name, of in parameters:
         if of[0] in "*&":
             most = ROOM // SIZES.get(of.split()[-1], ROOM)
@@ -49,27 +58,29 @@ def arguments(parameters):
     return found
 
 
-def called(library, export, given):
+def called(library: ctypes.CDLL, export: Export, given: list[Any]) -> tuple[Any, list[bytes]]:
     """Returns what an export returns, and all that it leaves in memory."""
     copies = [type(it).from_buffer_copy(it) for it in given]
-    function = getattr(library, export[0])
-    function.restype = TYPES.get(export[2])
+    function = getattr(library, export.name)
+    function.restype = TYPES.get(export.result)
     result = function(*copies)
     is_struct = isinstance(result, ctypes.Structure)
     return bytes(result) if is_struct else result, [*map(bytes, copies)]
 
 
-def main():
-    one, other, calls = *map(ctypes.CDLL, sys.argv[1:3]), int((sys.argv[3:] or [10000])[0])
-    exports = [it for path in SOURCES.glob("*.rs") for it in EXPORT.findall(path.read_text())]
+def main() -> int:
+    one, other = map(ctypes.CDLL, sys.argv[1:3])
+    calls = int(sys.argv[3]) if len(sys.argv) > 3 else 10000
+    texts = [path.read_text() for path in SOURCES.glob("*.rs")]
+    exports = [Export(*it) for text in texts for it in EXPORT.findall(text)]
     differ = 0
     for export in exports:
-        parameters = re.findall(r"(\w+): ([^,\n]+)", export[1])
+        parameters = re.findall(r"(\w+): ([^,\n]+)", export.parameters)
         for _ in range(calls):
             given = arguments(parameters)
             both = [called(it, export, given) for it in (one, other)]
             if both[0] != both[1]:
-                print(export[0], [*map(bytes, given)], *both)
+                print(export.name, [*map(bytes, given)], *both)
                 differ += 1
     print(f"{len(exports)} exports, {calls} calls of each: {differ} differ")
     return min(differ, 1)

@@ -34,10 +34,10 @@ CRATES = [
         (Crate(name, "library", LEFT_OUT.get(name, ())), "lib", f"src/generated/{name}")
         for name in eraser.LIBRARY
     ),
-    (Crate("font_lines", "program", ()), "lib", "src/bin/fontval/generated/font_lines"),
-    (Crate("fontval", "program", ()), "main", "src/bin/fontval/generated/fontval"),
-    (Crate("font_c", "exports", ()), "lib", "c/src/generated/font_c"),
-    (Crate("variations", "variations", ()), "lib", "variations/src/generated"),
+    (Crate("font_lines", "program"), "lib", "src/bin/fontval/generated/font_lines"),
+    (Crate("fontval", "program"), "main", "src/bin/fontval/generated/fontval"),
+    (Crate("font_c", "exports"), "lib", "c/src/generated/font_c"),
+    (Crate("variations", "variations"), "lib", "variations/src/generated"),
     *(
         (Crate(name, "tests", LEFT_OUT.get(name, ())), "tests", f"tests/generated/{name}")
         for name in ("rows", "variations")
@@ -45,7 +45,9 @@ CRATES = [
 ]
 
 
-def add_file(files, of, source, name, folder, module):
+def add_file(
+    files: dict[str, str], of: Crate, source: str, name: str, folder: str, module: str
+) -> None:
     """Adds a file and the modules that it declares."""
     path = f"{source}/{name}.rt"
     try:
@@ -57,22 +59,26 @@ def add_file(files, of, source, name, folder, module):
         sys.exit(f"{path}: it ends within an item")
     SHOWN[of.target].update(erased.contracts.shown.values())
     files[f"{folder}/{module}.rs"] = formatted(path, erased.written())
-    # A module of the root is in the same folder, and one of another file in a folder of its name.
-    below = lambda folder, file: folder if file in ("lib", "main", "mod") else f"{folder}/{file}"
     for inner in erased.modules:
         add_file(files, of, below(source, name), inner, below(folder, module), inner)
 
 
-def formatted(path, text):
+def below(folder: str, file: str) -> str:
+    """Returns the folder of a file's modules: of the root the same, of others one of its name."""
+    return folder if file in ("lib", "main", "mod") else f"{folder}/{file}"
+
+
+def formatted(path: str, text: str) -> str:
+    """Returns the text of a generated file, as rustfmt lays it out, with its source at the head."""
     head = f"// @generated from {path} by tools/erase\n\n"
-    rustfmt = ["rustfmt", "--edition=2024", f"--config-path={ROOT}"]
-    rustfmt = subprocess.run(rustfmt, input=head + text, capture_output=True, text=True)
+    command = ["rustfmt", "--edition=2024", f"--config-path={ROOT}"]
+    rustfmt = subprocess.run(command, input=head + text, capture_output=True, text=True)
     if rustfmt.returncode != 0:
         sys.exit(f"{path}: rustfmt cannot parse the erased text\n{rustfmt.stderr}")
     return rustfmt.stdout
 
 
-def update(files, old):
+def update(files: dict[str, str], old: set[str]) -> None:
     """Writes the files that have another text, and removes old ones."""
     for path in sorted(old | set(files)):
         file, text = ROOT / path, files.get(path)
@@ -87,7 +93,8 @@ def update(files, old):
 
 
 update(*widths.tree(ROOT))
-files, old = {COPY: (ROOT / LEGEND).read_text()}, set(PAGES.values())
+files: dict[str, str] = {COPY: (ROOT / LEGEND).read_text()}
+old = set(PAGES.values())
 # The definitions, the comments of their files and the paths that imports have; and the definitions
 # that are shown.
 DEFINITIONS, HEADS, PATHS = definitions.read(ROOT, [*eraser.LIBRARY, "variations"])

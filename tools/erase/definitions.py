@@ -1,8 +1,10 @@
 """The definitions that contracts name, as pages of rustdoc: a module for each crate, for each file
 of its `specs`, and for each definition. Only rustdoc compiles them."""
 
+import itertools
 import re
 from collections.abc import Iterable
+from dataclasses import dataclass, field
 from pathlib import Path
 
 # A definition begins so; a lemma does not. One of a `module _` is indented.
@@ -13,20 +15,24 @@ IMPORT = re.compile(r"^use Rattle\.([\w.]+)\.\{(.*)\}", re.MULTILINE)
 EXPORT = re.compile(r"^pub use Rattle\.(\w+)\.specs\.(\w+)(?: as (\w+))?$", re.MULTILINE)
 
 
+@dataclass
 class Definition:
     """A definition: the comment above it, or above the one before, which then is of both; its
     text; and the paths of other definitions, by their names in it."""
 
-    def __init__(self, comment, text):
-        self.comment, self.text, self.names = comment, text, {}
+    comment: str
+    text: str
+    names: dict[str, str] = field(default_factory=dict)
 
 
-def read(
-    root: Path, crates: list[str]
-) -> tuple[dict[str, Definition], dict[str, str], dict[str, str]]:
-    """Returns the definitions of these crates by their paths, as `font_decimal::Near::Up`, the
-    comments of their files, and the path of a definition by each path that imports have."""
-    definitions, heads, imports = {}, {}, {}
+Definitions = dict[str, Definition]  # by their paths, as `font_decimal::Near::Up`
+
+
+def read(root: Path, crates: list[str]) -> tuple[Definitions, dict[str, str], dict[str, str]]:
+    """Returns the definitions of these crates, the comments of their files, and the path of a
+    definition by each path that imports have."""
+    definitions: Definitions = {}
+    heads, imports = {}, {}
     for crate in crates:
         for file in sorted((root / f"crates/{crate}/specs").glob("*.antt")):
             module, text = f"{crate}::{file.stem}", file.read_text()
@@ -42,8 +48,8 @@ def read(
     for path, definition in definitions.items():
         module = path.rpartition("::")[0]
         known = {it.rpartition("::")[2]: it for it in definitions if it.startswith(f"{module}::")}
-        for line in imports[module]:
-            known |= imported(*line, paths)
+        for of, names in imports[module]:
+            known |= imported(of, names, paths)
         definition.names = named(definition.text, known)
         definition.names.pop(path.rpartition("::")[2], None)
     return definitions, heads, paths
@@ -62,13 +68,14 @@ def exported(root: Path, crates: list[str], definitions: Iterable[str]) -> dict[
     return paths
 
 
-def comment_of(text):
+def comment_of(text: str) -> str:
     """Returns the lines of the comment with which a text begins."""
-    lines = re.match(r"(--.*\n?)*", text)[0].splitlines()
+    lines = itertools.takewhile(lambda line: line.startswith("--"), text.splitlines())
     return "\n".join(line[3:].removeprefix("---- ") for line in lines)
 
 
-def dedented(text):
+def dedented(text: str) -> str:
+    """Returns a text without the indentation of its first line."""
     indent = len(text) - len(text.lstrip(" "))
     return "\n".join(line[indent:] for line in text.splitlines())
 
@@ -85,40 +92,41 @@ def imported(path: str, names: str, paths: dict[str, str]) -> dict[str, str]:
     return known
 
 
-def named(text, known):
+def named(text: str, known: dict[str, str]) -> dict[str, str]:
     """Returns those of the known names that a text has, in its order."""
     return {word: known[word] for word in re.findall(r"\w+", text) if word in known}
 
 
-def docs(text):
+def docs(text: str) -> str:
     """Returns a text as lines of documentation."""
     return "".join(f"/// {line}".rstrip() + "\n" for line in text.strip("\n").splitlines())
 
 
-def links(names: dict[str, str], functions: set[str] = frozenset()) -> str:
+def links(names: Iterable[str], functions: Iterable[str] = ()) -> str:
     """Returns links to definitions, below a text that names them. These functions may have the name
     of one."""
     shown = ("mod@" * (name in functions) + name for name in names)
     return "\n" + ", ".join(f"[`{name}`]" for name in shown) if names else ""
 
 
-def pages(definitions, heads, wanted):
+def pages(definitions: Definitions, heads: dict[str, str], wanted: Iterable[str]) -> str:
     """Returns the pages of these definitions, and of those that they name."""
-    kept, left = set(), list(wanted)
+    kept: set[str] = set()
+    left = list(wanted)
     while left:
         path = left.pop()
         if path not in kept:
             kept.add(path)
             left += definitions[path].names.values()
     rust = "#![allow(non_snake_case)]\n\n"
-    crate = None
+    crate = ""
     for module, head in heads.items():
         of, file = module.split("::")
         own = [path for path in definitions if path in kept and path.startswith(f"{module}::")]
         if not own:
             continue
         if of != crate:
-            rust += "}\n\n" * (crate is not None)
+            rust += "}\n\n" * bool(crate)
             rust += f"/// Definitions of the crate `{of}`.\npub mod {of} {{\n"
             crate = of
         names = [path.rpartition("::")[2] for path in own]
@@ -135,7 +143,7 @@ def pages(definitions, heads, wanted):
     return rust + "}\n"
 
 
-def imports(names):
+def imports(names: Iterable[tuple[str, str]]) -> str:
     """Returns the imports of definitions, which are names and their paths."""
     uses = ""
     for name, path in sorted(names):
@@ -144,7 +152,7 @@ def imports(names):
     return uses
 
 
-def page(path, definition):
+def page(path: str, definition: Definition) -> str:
     """Returns the page of a definition."""
     code = re.sub(r"\bpub ", "", definition.text)
     text = f"{definition.comment}\n\n```text\n{code}\n```{links(definition.names)}"

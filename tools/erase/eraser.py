@@ -33,7 +33,8 @@ compare is an error, as far as `forms.py` knows it.
 """
 
 import re
-from collections import namedtuple
+from collections.abc import Sequence
+from typing import Literal, NamedTuple, NoReturn
 
 import forms
 from contracts import Contracts
@@ -48,9 +49,15 @@ CONST = (
 
 LIBRARY = "font_decimal font_base font_fixed font_tags font_ids font_geom font_types".split()
 
-# What a crate becomes part of, "library", "exports" (for C), "program", "variations" or "tests",
-# and its modules that are left out.
-Crate = namedtuple("Crate", "name target left_out")
+# What a crate becomes part of; `exports` are for C.
+Target = Literal["library", "exports", "program", "variations", "tests"]
+
+
+class Crate(NamedTuple):
+    name: str
+    target: Target
+    left_out: Sequence[str] = ()  # which of its modules
+
 
 # What Rust derives besides, of types whose proofs need no such function.
 DERIVED = {
@@ -69,8 +76,19 @@ COPIED = ("DecimalFault", "InvalidTag", "SettingError")
 PACKAGES = ("library", "variations")
 
 
+class Header(NamedTuple):
+    end: int
+    clauses: list[range]
+
+
 class Refused(Exception):
     """A form that is not erased, after its line."""
+
+
+class Token(NamedTuple):
+    kind: str  # which group of `TOKEN` it is
+    text: str
+    line: int
 
 
 # The concatenated tokens are the file. All but spaces and comments are words.
@@ -83,8 +101,8 @@ TOKEN = re.compile(
 )
 
 
-def tokens(source):
-    """Splits a file into tokens: a kind, a text and a line."""
+def tokens(source: str) -> list[Token]:
+    """Splits a file into tokens."""
     at, found = 0, []
     while at < len(source):
         line, token = 1 + source.count("\n", 0, at), TOKEN.match(source, at)
@@ -95,7 +113,7 @@ def tokens(source):
                 else "an unterminated literal, a raw name or a quote of another form"
             )
             raise Refused(line, what)
-        found.append((token.lastgroup if token["marks"] is None else "code", token[0], line))
+        found.append(Token(str(token.lastgroup), token[0], line))
         at = token.end()
     return found
 
@@ -103,18 +121,22 @@ def tokens(source):
 class Eraser:
     """A file. Places in it are counted in words."""
 
-    def __init__(self, source, of, is_root, known=None, path=""):
-        self.tokens, self.of, self.is_root, self.file = tokens(source), of, is_root, path
-        self.places = [n for n, (kind, _, _) in enumerate(self.tokens) if kind == "code"]
-        self.words = [self.tokens[n][1] for n in self.places]
+    def __init__(
+        self, text: str, of: Crate, is_root: bool, known: dict[str, str] | None = None, path: str = ""
+    ) -> None:
+        self.tokens, self.of, self.is_root, self.file = tokens(text), of, is_root, path
+        self.places = [n for n, token in enumerate(self.tokens) if token.kind == "code"]
+        self.words = [self.tokens[n].text for n in self.places]
         # Of each token whether it is written, and what is written before it.
-        self.kept = [text not in MARKS for _, text, _ in self.tokens]
+        self.kept = [token.text not in MARKS for token in self.tokens]
         self.put_before = [""] * (len(self.tokens) + 1)
-        self.modules, self.header, self.trait_end = [], 0, 0
+        self.modules: list[str] = []
+        self.header, self.trait_end = 0, 0
         # Functions that had a parameter `W`, and the words whose form is checked.
-        self.writers, self.visited = [], []
+        self.writers: list[range] = []
+        self.visited: list[int] = []
         if of.target == "program":
-            first = (n for n, token in enumerate(self.tokens) if token[0] not in ("space", "head"))
+            first = (n for n, it in enumerate(self.tokens) if it.kind not in ("space", "head"))
             self.put_before[next(first, 0)] += "use crate::host::*;\n\n"
         self.contracts = Contracts(self, known or {})
         at = 0
@@ -128,7 +150,7 @@ class Eraser:
         if of.target != "tests":
             forms.check(self)
 
-    def step(self, at):
+    def step(self, at: int) -> int:
         """Decides on the words at this place, and returns the place of the next."""
         target = self.of.target
         match self.words[at : at + 9]:
@@ -168,7 +190,7 @@ class Eraser:
                 self.path(at, name, after)
         return at + 1
 
-    def path(self, at, name, after):
+    def path(self, at: int, name: str, after: str) -> None:
         """Writes the start of a path."""
         target = self.of.target
         if name == "crate" and target == "variations":
@@ -185,7 +207,7 @@ class Eraser:
         elif name in (*LIBRARY, "font_lines"):
             self.put(at, "crate::")
 
-    def item(self, at):
+    def item(self, at: int) -> int:
         """An item that may be left out, with its visibility."""
         item = at
         if self.words[at] == "pub":
@@ -214,10 +236,11 @@ class Eraser:
                 return at + 1
         return self.leave_out_with_comments(at, end)
 
-    def is_of_writer(self, at):
+    def is_of_writer(self, at: int) -> bool:
+        """Whether a word is in a function that had a parameter `W`."""
         return any(at in writer for writer in self.writers)
 
-    def attribute(self, at, opens):
+    def attribute(self, at: int, opens: int) -> int:
         """An attribute, whose bracket opens at the second place."""
         end = self.group_end(opens)
         match self.words[opens + 1 : end]:
@@ -242,7 +265,7 @@ class Eraser:
             self.leave_out(at, end)
         return end
 
-    def derive(self, first, end):
+    def derive(self, first: int, end: int) -> bool:
         """Leaves `Drop` and `Error` out of a `derive`, where they are last, and returns whether
         others are left. `Error` and `Display` are written after the type."""
         names = self.words[first : end - 2]
@@ -256,7 +279,7 @@ class Eraser:
             self.leave_out(first + len(names), end - 2)
         return len(names) > 0
 
-    def function(self, at):
+    def function(self, at: int) -> int:
         """`fn` and a name."""
         self.header = self.header_end(at)
         is_root, target = self.is_root, self.of.target
@@ -281,7 +304,7 @@ class Eraser:
                 return self.clone_of_copy(at)
         return at + 1
 
-    def put_attributes(self, at):
+    def put_attributes(self, at: int) -> None:
         """Writes `#[must_use]` above a function of a type, a module or a trait that returns a value
         in which no `Result` stands, which has that attribute itself; and `#[inline]` above each
         that has a body, does not print, and has no other."""
@@ -294,7 +317,7 @@ class Eraser:
         if has_body and self.words[at + 1] != "fmt" and "inline" not in before:
             self.put(first, "#[inline]\n")
 
-    def export(self, at):
+    def export(self, at: int) -> int:
         """`extern "C" fn f(x: &[T]) { .. }` becomes `extern "C" fn f(x: *const T, x_len: usize) {
         let x = unsafe { slice(x, x_len) }; .. }`, and is unsafe."""
         end, slices = self.group_end(at + 2), ""
@@ -315,7 +338,7 @@ class Eraser:
         self.put_after(self.header, slices)
         return at + 1
 
-    def clone_of_copy(self, at):
+    def clone_of_copy(self, at: int) -> int:
         """`fn clone(&self) -> Result<T, AllocError> { Ok(x) }` becomes `fn clone(&self) -> T { x
         }`."""
         comma = self.header - 3
@@ -335,7 +358,7 @@ class Eraser:
 
     # ---- where it ends
 
-    def group_end(self, at):
+    def group_end(self, at: int) -> int:
         """The end of the bracket that opens here; that of a word by itself is after it."""
         closes, pairs = [], {"(": ")", "[": "]", "{": "}"}
         for n in range(at, len(self.words)):
@@ -348,13 +371,13 @@ class Eraser:
                 return n + 1
         self.refuse(at, "a bracket is not closed")
 
-    def item_end(self, at):
+    def item_end(self, at: int) -> int:
         """After the next `;` outside of brackets."""
         while self.words[at : at + 1] != [";"]:
             at = self.group_end(at)
         return at + 1
 
-    def logic_end(self, at):
+    def logic_end(self, at: int) -> int:
         """The end of a group of logic."""
         if self.words[at : at + 1] != ["{"]:
             self.refuse(at, "a clause or a ghost item of another form")
@@ -362,25 +385,24 @@ class Eraser:
         self.check_logic(at, end)
         return end
 
-    def check_logic(self, at, end):
+    def check_logic(self, at: int, end: int) -> None:
         """Checks that the logic ends where this text does: its comments, which begin with `--` or
         `{-`, are unknown here, and it has no `r".."` or `'x'`, of which the text may end
         elsewhere."""
         pairs = zip(self.words[at:end], self.words[at + 1 : end])
         inside = self.tokens[self.places[at] : self.places[end - 1]]
-        is_other = lambda kind, text: kind != "space" and (
-            kind != "code" or text[0] != '"' and ('"' in text or "'" in text)
+        is_known = all(
+            kind == "space" or kind == "code" and (text[0] == '"' or not {'"', "'"} & {*text})
+            for kind, text, _ in inside
         )
-        if any(it in (("-", "-"), ("{", "-")) for it in pairs) or any(
-            is_other(*it[:2]) for it in inside
-        ):
+        if not is_known or any(it in (("-", "-"), ("{", "-")) for it in pairs):
             self.refuse(at, "a comment or a raw text in a clause or a ghost item")
 
-    def clause_end(self, at):
+    def clause_end(self, at: int) -> int:
         """`requires` or `ensures`, a name or none, and what it says."""
         return self.logic_end(at + 1 + (self.words[at + 1 : at + 2] != ["{"]))
 
-    def ghost_end(self, at):
+    def ghost_end(self, at: int) -> int:
         """`ghost`, a name, and after `:` or `=` what it is; then a `,` or a `;` if there is one."""
         if self.words[at + 2 : at + 3] not in ([":"], ["="]):
             self.refuse(at, "a ghost item of another form")
@@ -389,23 +411,23 @@ class Eraser:
             end = self.logic_end(end + 1)
         return end + (self.words[end : end + 1] in ([","], [";"]))
 
-    def header_end(self, at):
-        return self.header_and_clauses(at)[0]
+    def header_end(self, at: int) -> int:
+        return self.header_and_clauses(at).end
 
-    def header_and_clauses(self, at):
+    def header_and_clauses(self, at: int) -> Header:
         """The place of the `{` or the `;` after the header of a function or a type, past a bracket
-        such as that of `A<{ N }>`, and where its clauses begin and end."""
-        clauses = []
+        such as that of `A<{ N }>`, and its clauses."""
+        clauses: list[range] = []
         while True:
             end = self.group_end(at)
             match self.words[at : at + 1]:
                 case ["{"] if self.words[end : end + 1] in ([">"], [","]):
                     at = end
                 case ["{" | ";"]:
-                    return at, clauses
+                    return Header(at, clauses)
                 case ["requires" | "ensures"]:
-                    clauses.append((at, self.clause_end(at)))
-                    at = clauses[-1][1]
+                    clauses.append(range(at, self.clause_end(at)))
+                    at = clauses[-1].stop
                 case ["ghost"]:
                     at = self.ghost_end(at)
                 case _:
@@ -413,58 +435,59 @@ class Eraser:
 
     # ---- what is written
 
-    def written(self):
+    def written(self) -> str:
         """Returns the text that is kept. A line of which nothing is kept is not written."""
         rust = ""
-        for before, kept, (kind, text, _) in zip(self.put_before, self.kept, self.tokens):
+        for before, is_kept, (kind, text, _) in zip(self.put_before, self.kept, self.tokens):
             if kind in ("head", "doc"):
                 text = text.replace("font_types::", "font_types_proved::")
-            rust += before + (text if kept else "\0")
+            rust += before + (text if is_kept else "\0")
         lines = (rust + self.put_before[-1]).split("\n")
         kept = [line for line in lines if "\0" not in line or line.replace("\0", "").strip()]
         return "\n".join(kept).replace("\0", "").removesuffix("\n")
 
-    def leave_out(self, start, end):
+    def leave_out(self, start: int, end: int) -> int:
         """Leaves out words and what is between them, and returns their end."""
         for n in range(self.places[start], self.places[end - 1] + 1):
             self.kept[n] = False
         return end
 
-    def leave_out_with_comments(self, start, end):
+    def leave_out_with_comments(self, start: int, end: int) -> int:
         """Also leaves out the comments and docs on the lines above."""
         for n in range(self.first_comment(start), self.places[start]):
             self.kept[n] = False
         return self.leave_out(start, end)
 
-    def first_comment(self, start):
+    def first_comment(self, start: int) -> int:
         """The first token of the comments and docs on the lines above a word, or its own."""
         first = self.places[start]
         while first >= 2:
-            (kind, _, _), (_, space, _) = self.tokens[first - 2 : first]
-            is_own = first == 2 or "\n" in self.tokens[first - 3][1]
-            if kind not in ("comment", "doc") or not is_own or space.count("\n") > 1:
+            comment, space = self.tokens[first - 2 : first]
+            is_own = first == 2 or "\n" in self.tokens[first - 3].text
+            if comment.kind not in ("comment", "doc") or not is_own or space.text.count("\n") > 1:
                 break
             first -= 2
         return first
 
-    def put(self, at, text):
+    def put(self, at: int, text: str) -> None:
         """Writes a text before a word."""
         self.put_before[self.places[at]] += text
 
-    def put_after(self, at, text):
+    def put_after(self, at: int, text: str) -> None:
+        """Writes a text after a word."""
         self.put_before[self.places[at] + 1] += text
 
-    def replace(self, at, text):
+    def replace(self, at: int, text: str) -> None:
         self.put(at, text)
         self.leave_out(at, at + 1)
 
-    def refuse(self, at, what):
+    def refuse(self, at: int, what: str) -> NoReturn:
         """An error at a word, or at the end of the file."""
         place = self.places[at] if at < len(self.places) else -1
-        raise Refused(self.tokens[place][2], what)
+        raise Refused(self.tokens[place].line, what)
 
 
-def impls(words):
+def impls(words: list[str]) -> str:
     """Returns the impls that `derive(Error)` expands to. The words are those after the `derive`, to
     the end of the type. Texts of another form are errors of rustc."""
     kind = next(n for n, word in enumerate(words) if word in ("struct", "enum"))

@@ -2,7 +2,13 @@
 have one name and differ, and what linkers and other targets read. An error of a list names it. All
 other forms that Rust may read otherwise than Rattle differ in what `tools/mir` compares."""
 
+from __future__ import annotations
+
 import re
+from typing import TYPE_CHECKING
+
+if TYPE_CHECKING:
+    from eraser import Eraser
 
 LISTS = {
     # The attributes that are kept, beside `derive`.
@@ -24,7 +30,7 @@ OTHERS = (
 
 # The first row that fits says what a form is, if it is not one that means the same. The words of a
 # row have a space after each; it may hold only at the top of a file.
-FORMS = [
+ROWS = [
     # Rattle's ends below the top of its type. That of `bytes.get(n..)` is an index.
     (None, "index", r"\. \. \) "),
     ("a range with no end", "", r"(?<! [,(\[{@] )\. \. [)}{;,] "),
@@ -45,24 +51,25 @@ FORMS = [
     ("a name of std that Rust has otherwise", "", f"({'|'.join(OTHERS)}) "),
     ("a module of std that is not in `STD`", "", f"std :: (?!({STD}) )"),
 ]
-FORMS = [(what, where, re.compile(form)) for what, where, form in FORMS]
+FORMS = [(what, where, re.compile(form)) for what, where, form in ROWS]
 
 
-def is_in(words, name):
+def is_in(words: list[str], name: str) -> bool:
+    """Whether a list has these words."""
     return "".join(words) in LISTS[name].split()
 
 
-def is_start(words, at):
+def is_start(words: list[str], at: int) -> bool:
     """Whether a path may begin here: after the dots of a range, but not after that of a field."""
     return at == 0 or words[at - 1] not in ("::", ".") or words[max(at - 2, 0) : at] == [".", "."]
 
 
-def is_item(words, at):
+def is_item(words: list[str], at: int) -> bool:
     """Whether an item may begin here, not a type such as `impl Copy`."""
     return at == 0 or words[at - 1] not in (">", ":", "&", "(", ",", "<", "=", "+")
 
 
-def is_index(words):
+def is_index(words: list[str]) -> bool:
     """Whether these words end within the argument of a `get`."""
     depth = 0
     for n in range(len(words) - 1, -1, -1):
@@ -72,13 +79,13 @@ def is_index(words):
     return False
 
 
-def is_unused(eraser, at, end):
+def is_unused(eraser: Eraser, at: int, end: int) -> bool:
     """Whether an import is one that is left out. The program has `AllocError`."""
     is_kept = eraser.words[at + 1] == "std" and eraser.of.target == "program"
     return not is_kept and is_in(eraser.words[at:end], "UNUSED")
 
 
-def check_attribute(eraser, at, words, after):
+def check_attribute(eraser: Eraser, at: int, words: list[str], after: list[str]) -> None:
     """Refuses an attribute, by its words and those after it."""
     until = after.index("fn") if "fn" in after else len(after)
     if words[0] == "unsafe" and after[max(until - 2, 0) : until] != ["extern", '"C"']:
@@ -87,13 +94,14 @@ def check_attribute(eraser, at, words, after):
         eraser.refuse(at, f"`{''.join(words)}`, which is not in `ATTRIBUTES`")
 
 
-def check(eraser):
+def check(eraser: Eraser) -> None:
     """Refuses a form that is not of the language."""
-    is_text = lambda word: word[-1] in "\"'" and word != '"C"'
-    words, starts, text, depth = eraser.words, [], "; ", 0
+    words, text, depth = eraser.words, "; ", 0
+    starts: list[int] = []
     for word in words:
         starts.append(len(text))
-        text += ("''" if is_text(word) else word) + " "
+        is_text = word[-1] in "\"'" and word != '"C"'
+        text += ("''" if is_text else word) + " "
     for at in eraser.visited:
         for what, where, form in FORMS:
             if not form.match(text, starts[at]) or where == "top" and depth > 0:

@@ -7,6 +7,7 @@ proofs of their functions.
 """
 
 import re
+from pathlib import Path
 
 # The line above what is of one width, and the line below it.
 MARKS = (
@@ -28,27 +29,34 @@ WHOLE = [
 ]
 
 
-def tree(root):
+def tree(root: Path) -> tuple[dict[str, str], set[str]]:
     """Returns the files of the other widths, by their paths, and those that are there."""
-    files, old = {}, set()
-    text = lambda path: (root / path).read_text()
-    whole = (
-        lambda path: [path]
-        if "." in path
-        else sorted(str(file.relative_to(root)) for file in (root / path).rglob("*.antt"))
-    )
-    parts = lambda path: re.split("(" + "|".join(MARKS) + ")", text(path))
+    files: dict[str, str] = {}
+    old: set[str] = set()
     for width, name in WIDTHS.items():
         path = of_width(SOURCE, width, name)
-        alike, own = [of_width(part, width, name) for part in parts(SOURCE)], parts(path)
-        files[path] = "".join([alike[0], MARKS[0], own[2], MARKS[1], alike[4]])
-        for path in [path for folder in WHOLE for path in whole(folder)]:
-            files[of_width(path, width, name)] = of_width(text(path), width, name)
-        old.update(path for folder in WHOLE for path in whole(of_width(folder, width, name)))
+        alike = [of_width(part, width, name) for part in parts(root / SOURCE)]
+        files[path] = "".join([alike[0], MARKS[0], parts(root / path)[2], MARKS[1], alike[4]])
+        for path in [path for folder in WHOLE for path in whole(root, folder)]:
+            text = (root / path).read_text()
+            files[of_width(path, width, name)] = of_width(text, width, name)
+        old.update(path for folder in WHOLE for path in whole(root, of_width(folder, width, name)))
     return files, old
 
 
-def of_width(text, width, name):
+def parts(path: Path) -> list[str]:
+    """Returns a source above, between and below its marks, which are parts of it too."""
+    return re.split("(" + "|".join(MARKS) + ")", path.read_text())
+
+
+def whole(root: Path, path: str) -> list[str]:
+    """Returns the path of a file, or those of the files of a folder."""
+    if "." in path:
+        return [path]
+    return sorted(str(file.relative_to(root)) for file in (root / path).rglob("*.antt"))
+
+
+def of_width(text: str, width: int, name: str) -> str:
     """Returns a text about 32 bits as one about another width."""
     for old, new in ("[u8; 4]", f"[u8; {width // 8}]"), ("bytes_of 4", f"bytes_of {width // 8}"):
         text = text.replace(old, new)

@@ -6,6 +6,7 @@ import pathlib
 import re
 import sys
 import unittest
+from collections.abc import Iterator
 
 ROOT = pathlib.Path(__file__).resolve().parents[2]
 sys.path += [str(ROOT / "tools"), str(ROOT / "tools/erase")]
@@ -21,16 +22,17 @@ OF_EDITS = {"call of decode", "five bytes", "Level"}
 WITHOUT_GHOST = ("ExactSizeIterator", "ByteChunks")
 
 
-def angle_end(words, at):
+def angle_end(words: list[str], at: int) -> int:
     """The end of the generics that open here."""
     depth = 0
     for n in range(at, len(words)):
         depth += (words[n] == "<") - (words[n] == ">" and words[n - 1] != "-")
         if depth == 0:
             return n + 1
+    raise IndexError("generics that do not close")
 
 
-def gives(eraser, at):
+def gives(eraser: Eraser, at: int) -> list[str]:
     """Returns what the clauses of a function have to name, by its header."""
     words = eraser.words
     opens = angle_end(words, at + 2) if words[at + 2] == "<" else at + 2
@@ -53,16 +55,16 @@ def gives(eraser, at):
     return found + [f"result . {n}" for n in range(parts)]
 
 
-def says(eraser, start, end):
+def says(eraser: Eraser, clause: range) -> str:
     """Returns the words of an `ensures`, or nothing if it says what is always so."""
-    if eraser.words[start] != "ensures":
+    if eraser.words[clause.start] != "ensures":
         return ""
-    text = " ".join(eraser.words[eraser.words.index("{", start) + 1 : end - 1])
+    text = " ".join(eraser.words[eraser.words.index("{", clause.start) + 1 : clause.stop - 1])
     one, _, other = text.partition(" ≡ ")
     return "" if one == other or text == "IsTrue true" else f" {text} "
 
 
-def before(words, at):
+def before(words: list[str], at: int) -> list[str]:
     """The words before `fn`: its visibility and what it is."""
     first = at
     while first > 0 and words[first - 1] not in ("{", "}", ";", "]"):
@@ -70,9 +72,10 @@ def before(words, at):
     return words[first:at]
 
 
-def missing(eraser):
+def missing(eraser: Eraser) -> Iterator[tuple[int, str]]:
     """Yields each place of a file where a contract lacks something, and what."""
-    words, traits = eraser.words, []
+    words = eraser.words
+    traits: list[range] = []
     for at in eraser.visited:
         if words[at] in ("impl", "trait") and forms.is_item(words, at):
             opens = eraser.header_end(at)
@@ -87,7 +90,7 @@ def missing(eraser):
             kinds = before(words, at)
             if "crate" in kinds or "pub" not in kinds and not any(at in it for it in traits):
                 continue
-            clauses = [says(eraser, *clause) for clause in eraser.header_and_clauses(at)[1]]
+            clauses = [says(eraser, clause) for clause in eraser.header_and_clauses(at).clauses]
             text = "".join(clauses)
             is_whole = re.search(r" result (?!\. \d)", text)
             for name in gives(eraser, at):
@@ -96,21 +99,21 @@ def missing(eraser):
 
 
 class Contracts(unittest.TestCase):
-    def test_all_that_is_given(self):
+    def test_all_that_is_given(self) -> None:
         faults, functions = [], 0
         for crate in [*LIBRARY, "variations", "font_c"]:
             for path in sorted((ROOT / f"crates/{crate}/src").rglob("*.rt")):
                 if "tests" in path.parts or path.stem == "tests":
                     continue
-                eraser = Eraser(path.read_text(), Crate(crate, "tests", []), False)
+                eraser = Eraser(path.read_text(), Crate(crate, "tests"), False)
                 functions += eraser.words.count("fn")
                 for at, what in missing(eraser):
-                    line = eraser.tokens[eraser.places[at]][2]
+                    line = eraser.tokens[eraser.places[at]].line
                     faults.append(f"{path.relative_to(ROOT)}:{line}: {what}")
         self.assertFalse(faults, "\n".join(faults))
         self.assertGreater(functions, 600)
 
-    def test_first_lines_of_mutants(self):
+    def test_first_lines_of_mutants(self) -> None:
         """Each names a function, and a clause, a ghost item or a part of a definition."""
         specs = [path.read_text() for path in ROOT.glob("crates/*/specs/**/*.antt")]
         for crate in ROOT.glob("crates/*"):

@@ -12,7 +12,7 @@ import unittest
 
 ROOT = pathlib.Path(__file__).resolve().parents[2]
 sys.path.append(str(ROOT / "tools/erase"))
-from eraser import Crate, Eraser, Refused
+from eraser import Crate, Eraser, Refused, Target
 
 # Sources that are errors, each after its line and what the error says.
 REFUSED = r"""
@@ -121,7 +121,8 @@ pub fn f(n: &mut u8) {} ⇒ #[inline]⏎
 fn fmt(f: &mut F) -> fmt::Result { f.g() }
 """
 
-# The same of other crates.
+# The same of other crates, and of tests of the library.
+TARGETS: dict[str, Target] = {"fontval": "program", "variations": "variations"}
 OF_OTHERS = r"""
 fontval fn main() { 0..std::io::N } ⇒ pub fn main() { 0..crate::host::io::N }
 fontval fn f(n: &font_types::N) {} ⇒ fn f(n: &font_types_proved::N) {}
@@ -133,34 +134,35 @@ font_ids x.repeat(rt.alloc(), n)?; crate::N ⇒ x.repeat( n); crate::font_ids::N
 """
 
 
-def rows(table):
+def rows(table: str) -> list[str]:
+    """Returns the sources of a table, without comments on its rows."""
     lines = table.replace("\\\n", "").strip().splitlines()
     return [line.replace("⏎", "\n") for line in lines if not line.startswith("// ")]
 
 
-def in_full(rust):
+def in_full(rust: str) -> str:
     for short, text in SHORT.items():
         rust = rust.replace(short, text)
     return rust
 
 
-def erased(source, name="font_base", target="library"):
+def erased(source: str, name: str = "font_base", target: Target = "library") -> str:
     return Eraser(source, Crate(name, target, ["facts", "json"]), True).written()
 
 
 class Erasure(unittest.TestCase):
-    def setUp(self):
+    def setUp(self) -> None:
         self.folder = pathlib.Path(self.enterContext(tempfile.TemporaryDirectory()))
         for name in "c/src crates src tests tools/erase variations".split():
             left_out = shutil.ignore_patterns("out", "__pycache__")
             shutil.copytree(ROOT / name, self.folder / name, ignore=left_out)
         shutil.copy(ROOT / "rustfmt.toml", self.folder)
 
-    def erase(self):
-        eraser = [sys.executable, self.folder / "tools/erase"]
+    def erase(self) -> subprocess.CompletedProcess[str]:
+        eraser = [sys.executable, str(self.folder / "tools/erase")]
         return subprocess.run(eraser, capture_output=True, text=True)
 
-    def test_committed_files(self):
+    def test_committed_files(self) -> None:
         """It writes what has another text or is gone, removes what is extra, and nothing else."""
         width, changed = "crates/font_fixed/src/fixed_i16.rt", "c/src/generated/font_c/laws.rs"
         gone, extra = "src/generated/font_tags/tag.rs", "tests/generated/rows/extra.rs"
@@ -173,7 +175,7 @@ class Erasure(unittest.TestCase):
         for path in width, changed, gone:
             self.assertEqual((self.folder / path).read_text(), (ROOT / path).read_text(), path)
 
-    def test_refused(self):
+    def test_refused(self) -> None:
         for row in rows(REFUSED):
             where, source = row.split(": ", 1)
             line, what = where.split(" ", 1)
@@ -182,7 +184,7 @@ class Erasure(unittest.TestCase):
             found, told = error.exception.args
             self.assertTrue(str(found) == line and what in told, f"{row}: {found} {told}")
 
-    def test_changed(self):
+    def test_changed(self) -> None:
         for row in rows(SAME) + rows(CHANGED):
             source, _, rust = row.partition(" ⇒ ")
             found = re.sub(r"#\[(inline|must_use)\]\n", "", erased(source))
@@ -193,5 +195,5 @@ class Erasure(unittest.TestCase):
         for row in rows(OF_OTHERS):
             name, row = row.split(" ", 1)
             source, rust = row.split(" ⇒ ")
-            target = {"fontval": "program", "variations": "variations"}.get(name, "tests")
+            target = TARGETS.get(name, "tests")
             self.assertTrue(erased(source, name, target).endswith(in_full(rust)), row)

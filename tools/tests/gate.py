@@ -70,7 +70,7 @@ esac
 
 
 class Gate(unittest.TestCase):
-    def setUp(self):
+    def setUp(self) -> None:
         self.folder = pathlib.Path(self.enterContext(tempfile.TemporaryDirectory()))
         for path in f".ci/run {STORED} {MEMORY} {VERSION}".split():
             text = (ROOT / path).read_text()
@@ -78,29 +78,32 @@ class Gate(unittest.TestCase):
         for path in BUILT.split() + [f"bin/{name}" for name in TOOLS + TOOLS_FOR_C]:
             self.put(path, STAND_IN)
         for name in SYSTEM.split():
-            (self.folder / "bin" / name).symlink_to(shutil.which(name))
+            (self.folder / "bin" / name).symlink_to(shutil.which(name) or name)
         self.put("src/lib.rs", "")
         self.put("tools/tests/one.py", "    def test_one(self):\n")
         self.put("crates/font_types/out/rlib/old", "")
 
-    def put(self, path, text):
-        path = self.folder / path
+    def put(self, name: str, text: str) -> None:
+        path = self.folder / name
         path.parent.mkdir(parents=True, exist_ok=True)
         path.write_text(text)
         path.chmod(0o755)
 
-    def run_gate(self, fail=""):
+    def run_gate(self, fail: str = "") -> str | None:
         """Runs the gate while a call fails. Returns what it leaves out, unless it fails."""
         (self.folder / "log").write_text("")
         command = [self.folder / ".ci/run"] + ["--anew"] * (fail in ("--anew", "old"))
-        environment = {"PATH": self.folder / "bin", "LOG": self.folder / "log", "FAIL": fail}
+        environment = {"PATH": f"{self.folder}/bin", "LOG": f"{self.folder}/log", "FAIL": fail}
         gate = subprocess.run(command, env=environment, capture_output=True, text=True)
         told, last = ["", *gate.stdout.splitlines()][-2:]
         passed = f"3 passed, {int(fail == 'crate')} failed"
         self.assertEqual(last, passed if gate.returncode == 0 else "0 passed, 1 failed", fail)
-        return re.fullmatch("left out: (.*)", told)[1] if gate.returncode == 0 else None
+        if gate.returncode != 0:
+            return None
+        self.assertRegex(told, "^left out: ", fail)
+        return told.removeprefix("left out: ")
 
-    def test_calls(self):
+    def test_calls(self) -> None:
         self.assertEqual(self.run_gate(), "nothing")
         calls = (self.folder / "log").read_text().splitlines()
         self.assertFalse((self.folder / "crates/font_types/out/rlib/old").exists())
@@ -121,7 +124,7 @@ class Gate(unittest.TestCase):
             self.assertEqual(self.run_gate(kit), "nothing")
             self.assertIn(call, (self.folder / "log").read_text().splitlines())
 
-    def test_missing_tools(self):
+    def test_missing_tools(self) -> None:
         for tool in TOOLS + TOOLS_FOR_C:
             path = self.folder / "bin" / tool
             left_out = f"the library for C, which needs {tool}" if tool in TOOLS_FOR_C else None

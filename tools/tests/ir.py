@@ -87,7 +87,7 @@ print(json.dumps([it for it in json.load(sys.stdin) if is_undefined(it)]))
 
 
 class Reader(unittest.TestCase):
-    def test_undefined_and_controls(self):
+    def test_undefined_and_controls(self) -> None:
         rows = [tuple(line.split(" | ")) for line in ROWS.splitlines()]
         command = ["/usr/bin/python3", "-B", "-c", RUN]
         given = json.dumps([it for row in rows for it in row])

@@ -10,10 +10,9 @@ import unittest
 ROOT = pathlib.Path(__file__).resolve().parents[2]
 
 
-def run(*command):
-    return subprocess.run(
-        command, cwd=ROOT, check=True, capture_output=True, text=True
-    ).stdout.splitlines()
+def run(*command: str) -> list[str]:
+    done = subprocess.run(command, cwd=ROOT, check=True, capture_output=True, text=True)
+    return done.stdout.splitlines()
 
 
 FILES = run("git", "ls-files", "--cached", "--others", "--exclude-standard")
@@ -96,26 +95,31 @@ MADE = [
 ]
 
 
-def text(path):
+def text(path: str) -> str:
     return (ROOT / path).read_text()
 
 
-def of(start, *endings):
-    return [path for path in FILES if path.startswith(start) and path.endswith(endings or "")]
+def of(start: str, *endings: str) -> list[str]:
+    """Returns the paths of the files that start and end so."""
+    return [path for path in FILES if path.startswith(start) and path.endswith(endings or ("",))]
 
 
-def words(text):
+def words(text: str) -> set[str]:
     return set(re.findall(r"[A-Za-z0-9_]+", text))
 
 
-def quoted(page, others):
+def squeezed(text: str) -> str:
+    return "".join(text.split())
+
+
+def quoted(page: str, others: str) -> list[str]:
     """What a page, without its blocks of code, quotes in characters of names and these."""
     texts = "\n".join(page.split("```")[::2]).split("`")[1::2]
     return [it for it in texts if re.fullmatch(rf"[A-Za-z0-9_{others}]+", it)]
 
 
 class Pages(unittest.TestCase):
-    def test_names_paths_and_links(self):
+    def test_names_paths_and_links(self) -> None:
         texts = map(text, of("", ".rt", ".antt", ".rs", ".c", ".h", ".txt", ".py"))
         source = words(" ".join([*FILES, OTHERS, *texts]))
         callers = {
@@ -143,9 +147,8 @@ class Pages(unittest.TestCase):
                     wrong.append(link)
             self.assertFalse(wrong, page)
 
-    def test_shown_code(self):
+    def test_shown_code(self) -> None:
         # README shows a contract and a definition, CALLING a file.
-        squeezed = lambda text: "".join(text.split())
         files = ["src/reader.rt", "specs/Reading.antt"]
         source = squeezed("".join(text(f"crates/font_decimal/{file}") for file in files))
         _, page = text("README.md").split("## What a contract looks like")
@@ -155,9 +158,9 @@ class Pages(unittest.TestCase):
         file, after = text("docs/CALLING.md").split("](../crates/callers/", 1)[1].split(")", 1)
         self.assertEqual(after.split("```")[1].split("\n", 1)[1], text(f"crates/callers/{file}"))
 
-    def test_lines_of_definitions(self):
+    def test_lines_of_definitions(self) -> None:
         """EVIDENCE has a row for each crate with definitions, but `callers` and `font_fixed2`."""
-        counted = collections.Counter()
+        counted: collections.Counter[str] = collections.Counter()
         for path in of("crates/", ".antt"):
             if of_crate := re.fullmatch(r"crates/(\w+)/specs/\w+\.antt", path):
                 counted[of_crate[1]] += text(path).count("\n")
@@ -165,7 +168,7 @@ class Pages(unittest.TestCase):
         rows = re.findall(r"\n\| \[(\w+)\]\(\S+/specs\) \| (\d+) \|", text("docs/EVIDENCE.md"))
         self.assertEqual({name: int(number) for name, number in rows}, dict(counted))
 
-    def test_signs_of_contracts(self):
+    def test_signs_of_contracts(self) -> None:
         """The legend has each sign, each member of a callback and each case of an `Option` or a
         `Result` that contracts use."""
         shown = [text(path) for path in of(GENERATED, ".rs")]
@@ -179,16 +182,15 @@ class Pages(unittest.TestCase):
 
 
 class Package(unittest.TestCase):
-    def test_files(self):
+    def test_files(self) -> None:
         """The package has the Rust, the source that it is made from, and the words of its
         contracts; its pages link to no file."""
         packed = set(run("cargo", "package", "--list", "--allow-dirty", "--offline"))
         packed -= {"Cargo.lock", "Cargo.toml.orig", ".cargo_vcs_info.json"}
         expected = {path for path in of("src/") if not path.startswith("src/bin/")}
         for name in "base decimal fixed geom ids tags types".split():
-            expected.update(
-                path for path in of(f"crates/font_{name}/src/", ".rt") if "/tests" not in path
-            )
+            source = of(f"crates/font_{name}/src/", ".rt")
+            expected.update(path for path in source if "/tests" not in path)
             expected.update(of(f"crates/font_{name}/specs/", ".antt"))
         expected.update(
             "CHANGELOG.md Cargo.toml LICENSE-APACHE LICENSE-MIT docs/PORTING.md".split()
@@ -198,8 +200,10 @@ class Package(unittest.TestCase):
             for link in text(page).split("](")[1:] if page.endswith(".md") else ():
                 self.assertTrue(link.startswith("https:"), f"{page}: {link[:40]}")
 
-    def test_versions(self):
-        version = lambda path, before: text(path).split(before, 1)[1].split('"')[0]
+    def test_versions(self) -> None:
+        def version(path: str, before: str) -> str:
+            return text(path).split(before, 1)[1].split('"')[0]
+
         header = version("c/include/font_types.h", '#define FTY_VERSION "')
         tomls = "Cargo.toml c/Cargo.toml compare/Cargo.toml variations/Cargo.toml"
         for name in f"{tomls} Cargo.lock c/Cargo.lock variations/Cargo.lock".split():
@@ -216,7 +220,7 @@ class Package(unittest.TestCase):
         ]:
             self.assertIn(shown, text(path), path)
 
-    def test_names_on_its_first_page(self):
+    def test_names_on_its_first_page(self) -> None:
         page, exports = text("src/lib.rs"), text("src/generated/font_types/mod.rs")
         names = re.findall(r"\w+", " ".join(re.findall(r"pub use [^{;]*\{([^}]*)\}", exports)))
         # What tests of headers use and a constant are elsewhere.
@@ -225,14 +229,13 @@ class Package(unittest.TestCase):
 
 
 class Census(unittest.TestCase):
-    def test_none_is_lost(self):
+    def test_none_is_lost(self) -> None:
         for start, ending, what, number in COUNTS:
-            found = sum(
-                (ROOT / path).read_bytes().count(what.encode()) for path in of(start, ending)
-            )
+            contents = [(ROOT / path).read_bytes() for path in of(start, ending)]
+            found = sum(it.count(what.encode()) for it in contents)
             self.assertEqual(found, number, f"{what!r} in {start}")
 
-    def test_items(self):
+    def test_items(self) -> None:
         for path, item in ITEMS:
             lines = [line.strip() for line in text(f"crates/{path}").splitlines()]
             code = " ".join(line for line in lines if not line.startswith(("#[error", "//")))

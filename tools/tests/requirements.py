@@ -9,7 +9,7 @@ PAGE = (ROOT / "tools/tests/requirements.md").read_text()
 PATHS = dict(re.findall(r"^\[(.*)\]: ../../(.*)$", PAGE, re.MULTILINE))
 
 
-def in_one_line(text):
+def in_one_line(text: str) -> str:
     """Returns the code of a text in one line, as if no bracket were on a line of its own."""
     code = " ".join(
         " ".join(line for line in text.splitlines() if not line.strip().startswith("//")).split()
@@ -17,7 +17,7 @@ def in_one_line(text):
     return re.sub(r",? ([)\]])", r"\1", re.sub(r"([(\[]) ", r"\1", code))
 
 
-def has(code, literal):
+def has(code: str, literal: str) -> bool:
     """Returns whether the code has a literal, or `fn NAME .. LITERAL` in this function."""
     function, dots, row = literal.partition(" .. ")
     if not dots:
@@ -26,14 +26,14 @@ def has(code, literal):
 
 
 class Requirements(unittest.TestCase):
-    def test_rows_are_shown(self):
+    def test_rows_are_shown(self) -> None:
         lines, answers = [
             (ROOT / f"crates/fontval/{name}").read_bytes().split(b"\n")
             for name in ("stdin", "stdout")
         ]
         stored = dict(zip(lines, answers))
-        text = lambda path: (ROOT / path).read_bytes().decode(errors="replace")
-        codes = {label: in_one_line(text(path)) for label, path in PATHS.items()}
+        texts = {label: (ROOT / path).read_text(errors="replace") for label, path in PATHS.items()}
+        codes = {label: in_one_line(text) for label, text in texts.items()}
         mutants, rows, literals = [], 0, 0
         for row in re.findall(r"^\| .* \| (?:(?=\[)|(?=`))(.*) \|$", PAGE, re.MULTILINE):
             rows += 1

@@ -8,6 +8,7 @@ import re
 import subprocess
 import sys
 import unittest
+from collections.abc import Iterator
 
 ROOT = pathlib.Path(__file__).resolve().parents[2]
 SOURCE = ROOT / "src/generated"
@@ -35,13 +36,13 @@ IN_A_ROW = "are in a row, and so proved"
 class Function:
     """A public function: its file, the head of its `impl` or trait, and its signature."""
 
-    def __init__(self, file, outer, signature):
-        self.text, self.name = f"{file}: {outer}: {signature}", re.search(r"fn (\w+)", signature)[1]
+    def __init__(self, file: pathlib.Path, outer: str, name: str, signature: str) -> None:
+        self.text, self.name = f"{file}: {outer}: {signature}", name
         head = re.sub(r"^(pub )?(impl|trait)(<[^{]*?>(?= ))? ", "", outer).split(" where")[0]
         self.trait, _, type_ = head.split(": ")[0].rpartition(" for ")
         self.type = re.sub(r"<.*", "", type_.removeprefix("&").strip())
 
-    def is_called(self, type_, name, rust):
+    def is_called(self, type_: str, name: str, rust: str) -> bool:
         """Returns whether a row calls the function of a type."""
         operator = self.trait.split("<")[0]
         if operator == "Neg":
@@ -55,7 +56,7 @@ class Function:
         called = rf"\b{type_}\b.*(\.|::){self.name}\b|Scalar::{self.name}\(.*\b{type_}\b"
         return bool(re.search(called, name) or re.search(called, rust))
 
-    def place(self, rows):
+    def place(self, rows: list[tuple[str, str]]) -> str | None:
         """Returns whether rows call the function, of a type of several formats a row for each, or
         the rule by which none does."""
         types = FORMATS.get(self.type, self.type).split() or [""]
@@ -66,7 +67,7 @@ class Function:
         return next((rule for rule, it in RULES.items() if re.search(it, self.text)), None)
 
 
-def functions():
+def functions() -> Iterator[Function]:
     """Yields the public functions of the library that have a body."""
     exports = set(re.findall(r"\w+", (SOURCE / "font_types/mod.rs").read_text()))
     for path in sorted(SOURCE.rglob("*.rs")):
@@ -80,22 +81,23 @@ def functions():
             found = re.match(r"(pub )?(const )?fn (\w+)[^{;]*(?:\[[^\]]*\][^{;]*)*{", text)
             if found and (found[1] or " for " in outer or outer.startswith("pub trait")):
                 hidden = "" if outer or found[3] in exports else "NOT EXPORTED "
-                yield Function(path.relative_to(SOURCE), outer, hidden + found[0])
+                yield Function(path.relative_to(SOURCE), outer, found[3], hidden + found[0])
 
 
-def rows():
+def rows() -> list[tuple[str, str]]:
     """Returns the name and the Rust of each row."""
     show = "import cases; print([(it.name.split(',')[0], it.body) for it in cases.CASES])"
     for python in (sys.executable, "/usr/bin/python3"):
         command = [python, "-B", "-c", show]
         shown = subprocess.run(command, cwd=ROOT / "tools/smt", capture_output=True, text=True)
         if shown.returncode == 0:
-            return ast.literal_eval(shown.stdout)
+            found: list[tuple[str, str]] = ast.literal_eval(shown.stdout)
+            return found
     raise unittest.SkipTest("no Python has z3")
 
 
 class SecondProof(unittest.TestCase):
-    def test_no_function_is_left_out(self):
+    def test_no_function_is_left_out(self) -> None:
         known = rows()
         places = [(it.place(known), it.text) for it in functions()]
         self.assertEqual([text for place, text in places if place is None], [])
