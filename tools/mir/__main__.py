@@ -22,6 +22,7 @@ import facts
 import kept
 import mutants
 from compare import ADVICE, FAULTS, compare, read
+from names import Names
 from packages import Sources
 
 ROOT = Path(__file__).resolve().parents[2]
@@ -43,7 +44,7 @@ ONE_SIDED = {
 }
 
 
-def report(names, faults):
+def report(names: Names, faults: list[str]) -> int:
     """Compares all functions, and returns how many faults there are, with those that are given."""
     compared = [*compare(names)]
     reasons, alone = names.alone()
@@ -59,23 +60,23 @@ def report(names, faults):
     total = collections.Counter(name.split("::")[0] for name, _ in compared)
     same = collections.Counter(name.split("::")[0] for name, fault in compared if not fault)
     crates = ", ".join(f"{it} {same[it]} of {count}" for it, count in sorted(total.items()))
-    count = f"{same.total()} of {total.total()}"
-    print(f"functions with the same MIR on every path: {count} ({crates})")
+    of_all = f"{same.total()} of {total.total()}"
+    print(f"functions with the same MIR on every path: {of_all} ({crates})")
     return len(errors)
 
 
-def run(root, options):
+def run(root: Path, options: set[str]) -> int:
     """Runs what the options ask for, and returns how many faults there are."""
     sources = Sources(root)
-    names = sources.crates.values()
+    names = [*sources.crates.values()]
     if options == {"--write"}:
         kept.write(ROOT, names)
         return 0
     is_left = "--proved" in options or any(kept.left_of(ROOT, it).exists() for it in names)
-    copy = None if is_left else kept.kept()
+    copy = {} if is_left else kept.kept()
     crates = kept.left(ROOT, names) if is_left else copy["crates"]
     both = read(root, sources, crates)
-    faults = report(both, declared.faults(root, sources))
+    faults = report(both, [*declared.faults(root, sources.files, sources.lines)])
     if "--mutants" in options and not faults:
         faults += mutants.report(root, both, crates)
     if "--proved" in options:
@@ -86,7 +87,7 @@ def run(root, options):
     return faults + ("--release" in options and is_other)
 
 
-def main():
+def main() -> int:
     version = subprocess.run(["rustc", "--version"], capture_output=True, text=True, check=True)
     if not version.stdout.startswith(f"rustc {RUSTC}."):
         print(f"rustc {RUSTC} is needed, and this is {version.stdout}", file=sys.stderr, end="")

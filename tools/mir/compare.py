@@ -1,17 +1,20 @@
 """Compares each function that both sides have."""
 
+from collections.abc import Iterator
+from pathlib import Path
+
 import rattle
 import rust
-from names import Names
-from packages import PACKAGES, printed
-from paths import Differs, explore
+from names import Differs, Names
+from packages import PACKAGES, Sources, printed
+from paths import explore
 
 # What a reader says of a form that is none of its own.
 FAULTS = (ArithmeticError, AttributeError, LookupError, TypeError, ValueError)
 ADVICE = "a form that is refused or not read: rust.py and rattle.py read forms, std.py those of std"
 
 
-def read(root, sources, crates):
+def read(root: Path, sources: Sources, crates: dict[str, rattle.Json]) -> Names:
     """Returns the functions of both sides, by name: of Rust as cargo compiles it, and of crates."""
     text = rust.Text(sources.lines.values())
     for package, target, folder, module in PACKAGES:
@@ -20,7 +23,7 @@ def read(root, sources, crates):
     return Names(text, rattle.Library(crates.values()), sources)
 
 
-def compare(names):
+def compare(names: Names) -> Iterator[tuple[str, str | None]]:
     """Yields each function of both sides, and how it differs, or None."""
     for one, other in sorted(names.both.items()):
         fault = None

@@ -3,6 +3,8 @@ heads of traits and `impl`s, and signatures. A file of Rust has them as the sour
 has them, word by word and in the same order, but for what the eraser adds."""
 
 import re
+from collections.abc import Iterator
+from pathlib import Path
 
 WORD = re.compile(
     r"""(?P<comment>//[^\n]*)|(?P<hidden>/\*|\b[bc]?r(?=["#]))|b?"(?:[^"\\]|\\.)*"|"""
@@ -48,7 +50,7 @@ CHANGED = (
 )
 
 
-def words(text, crate):
+def words(text: str, crate: str) -> str:
     """Returns the words of a file of a crate, without comments and paths to the crate."""
     found = [*WORD.finditer(text)]
     if any(it["hidden"] for it in found):
@@ -58,14 +60,14 @@ def words(text, crate):
     return re.sub(rf"\b(?:crate|super|{crate}) :: ", "", text)
 
 
-def faults(root, sources):
+def faults(root: Path, files: dict[str, str], lines: dict[str, list[str]]) -> Iterator[str]:
     """Yields what a file of Rust declares and its source does not."""
-    for file, path in sources.files.items():
+    for file, path in files.items():
         crate = file.split("/")[0]
-        rust = words("\n".join(sources.lines[path]), crate)
+        rust = words("\n".join(lines[path]), crate)
         source, at = words((root / "crates" / file).read_text(), crate), 0
-        for it in OTHER_FORM.finditer(rust):
-            yield f"{path}: a form that is not read: `{rust[it.start() :][:40]}`"
+        for form in OTHER_FORM.finditer(rust):
+            yield f"{path}: a form that is not read: `{rust[form.start() :][:40]}`"
         for pattern, new in CHANGED:
             rust, source = (re.sub(pattern, new, it) for it in (rust, source))
         if rust.count("# [ repr") != source.count("# [ repr"):

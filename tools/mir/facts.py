@@ -4,21 +4,23 @@ term it is true; of another condition, whether it is. `test` tries this against 
 import itertools
 import operator
 
-from terms import compared, is_number, number, same, value
+from terms import Term, compared, is_number, number, same, value
+
+Ranges = list[tuple[int, int]]  # of raw values, each from the first to the last
 
 
-def complement(ranges, bits):
+def complement(ranges: Ranges, bits: int) -> Ranges:
     starts = [0, *(high + 1 for _, high in ranges)]
     ends = [*(low - 1 for low, _ in ranges), (1 << bits) - 1]
     return [it for it in zip(starts, ends) if it[0] <= it[1]]
 
 
-def common(some, others):
+def common(some: Ranges, others: Ranges) -> Ranges:
     found = ((max(a, c), min(b, d)) for (a, b), (c, d) in itertools.product(some, others))
     return sorted(it for it in found if it[0] <= it[1])
 
 
-def asked(term):
+def asked(term: Term) -> tuple[Term, int, Ranges] | None:
     """Returns the term that is compared with an integer, its width, and the ranges of the raw
     values for which it is true; or None."""
     if term[0] not in ("eq", "lt") or is_number(*term[-2:]) or not any(map(is_number, term[-2:])):
@@ -37,17 +39,17 @@ def asked(term):
 # A fact is what a branch of this path asked, so it is true of the term wherever that occurs: terms
 # are values, which no store changes. Nothing is known but by a question, or as both are equal.
 class Facts:
-    def __init__(self):
+    def __init__(self) -> None:
         self.known, self.values, self.equal = {}, {}, []
 
-    def values_of(self, term, bits):
+    def values_of(self, term: Term, bits: int) -> Ranges:
         """Returns the values that a term may have, which terms that are equal have too."""
         found = self.values.get(term, [(0, (1 << bits) - 1)])
         for pair in (it for it in self.equal if term in it):
             found = common(found, self.values.get(pair[term == pair[0]], found))
         return found
 
-    def decided(self, term):
+    def decided(self, term: Term) -> bool | None:
         """Returns whether a condition is true on this path, or None if it may be either."""
         if is_number(term):
             return term == number(1, 1)
@@ -63,9 +65,9 @@ class Facts:
             return False
         return None if common(now, complement(values, bits)) else True
 
-    def learn(self, term, is_true):
-        if term[0] == "not":
-            return self.learn(term[1], not is_true)
+    def learn(self, term: Term, is_true: bool) -> None:
+        while term[0] == "not":
+            term, is_true = term[1], not is_true
         self.known[term], question = is_true, asked(term)
         if question:
             of, bits, values = question
@@ -76,10 +78,9 @@ class Facts:
         elif term[0] == "lt" and is_true:
             self.known["lt", term[1], term[3], term[2]] = False
             self.known[same(*term[2:])] = False
-        return None
 
 
-def test():
+def test() -> None:
     """Tries each comparison of a byte with an integer, and pairs of facts about two values."""
     names = {it.title(): getattr(operator, it) for it in ("eq", "ne", "lt", "le", "gt", "ge")}
     x, y = ("param", 0), ("param", 1)
@@ -106,5 +107,5 @@ def test():
         if facts.decided(second) is None:
             facts.learn(second, True)
         for term, where in cases.items() if one & other else ():
-            found = facts.decided(term)
-            assert found is None or (one & other <= where if found else not one & other & where)
+            known = facts.decided(term)
+            assert known is None or (one & other <= where if known else not one & other & where)

@@ -5,30 +5,36 @@ an element, `end` one from the end, `win` a part, and `tag`, `len`, `first` of a
 operand is `copy` or `raw` of a place, or `term`; only `raw` may be a pointer beside its slice.
 """
 
+from collections.abc import Callable
+from typing import Any
+
 from std import known, shown
-from terms import UNIT, Memory, at, cast, counted, element, length, may_panic, negated, number
-from terms import may_lend, operation, part, place_of, pointer, slice_of
+from terms import UNIT, Events, Memory, Term, Terms, at, cast, counted, element, length, may_lend
+from terms import may_panic, negated, number, operation, part, place_of, pointer, slice_of
 
 
 class Function:
     """A function or constant; `lower`, of a reader, writes its blocks when it is first run."""
 
-    def __init__(self, name):
-        self.name, self.count, self.blocks, self.heads = name, 0, {}, set()
-        self.used = {}  # which places of the caller are read or, if true, written
+    lower: Callable[[], None]
+    term: Callable[[str], Term]
 
-    def arguments(self):
+    def __init__(self, name: str) -> None:
+        self.name, self.count, self.blocks, self.heads = name, 0, {}, set()
+        self.used: dict[Term, bool] = {}  # which places of the caller are read or, if true, written
+
+    def arguments(self) -> list[Term]:
         return [("param", n) for n in range(self.count)]
 
-    def returned(self, result):
+    def returned(self, result: Term) -> Term:
         return result
 
-    def prepare(self):
+    def prepare(self) -> None:
         if not self.blocks:
             self.lower()
             self.find_heads(0, {})
 
-    def find_heads(self, label, state):
+    def find_heads(self, label: int, state: dict[int, str]) -> None:
         """Finds the blocks at which loops begin: those that a block after them goes back to."""
         state[label] = "open"
         for kind, *it in self.blocks[label]:
@@ -42,30 +48,30 @@ class Function:
 
 
 class Machine:
-    def __init__(self, function):
+    def __init__(self, function: Function) -> None:
         function.prepare()
         self.function, self.memory = function, Memory(function.arguments(), function.used)
 
-    def run(self):
+    def run(self) -> Events:
         result = yield from self.result()
         yield ("return", self.memory.seen(self.function.returned(result)))
 
-    def result(self):
-        label = 0
+    def result(self) -> Events:
+        label: int | None = 0
         while label is not None:
             if label in self.function.heads:
                 yield ("head", label)
             label = yield from self.block(label)
         return self.memory.read((("loc", 0), ()))
 
-    def constant(self, function):
+    def constant(self, function: Function) -> Events:
         """Returns what a constant has, where what it refers to is static."""
         inner = Machine(function)
         result = yield from inner.result()
         self.memory.checks |= inner.memory.checks
         return inner.memory.fixed(result)
 
-    def block(self, label):
+    def block(self, label: int) -> Events:
         """Runs a block, and returns the label of the next, or None at the end."""
         for kind, *it in self.function.blocks[label]:
             if kind == "set":
@@ -88,7 +94,7 @@ class Machine:
             raise ValueError(f"a block that ends with {kind}")
         return None
 
-    def switch(self, of, arms, default):
+    def switch(self, of: Term, arms: list[tuple[int, int]], default: int | None) -> Events:
         """Chooses by a Boolean, or by the first of the arms, without a default one of them."""
         operand, bits = of
         term = self.operand(operand)
@@ -103,9 +109,10 @@ class Machine:
 
     # ---- places and values
 
-    def place(self, place):
-        (local, steps), path = place, ()
-        root = ("loc", local)
+    def place(self, place: Term) -> Term:
+        local, steps = place
+        root: Term = ("loc", local)
+        path: Term = ()
         for step in steps:
             if step[0] == "*":
                 term = self.memory.read((root, path))
@@ -120,7 +127,7 @@ class Machine:
                 path = (*path, step)
         return root, path
 
-    def from_end(self, root, path, kind, start, end=0):
+    def from_end(self, root: Term, path: Term, kind: str, start: int, end: int = 0) -> Term:
         """Returns the path of an element from the end, or of a part without some at its end."""
         is_part = path and path[-1][0] == "win"
         if not is_part and (root[0] != "mem" or path):
@@ -132,7 +139,7 @@ class Machine:
         begun = at(path, number(start, 64))
         return (*begun[:-1], ("win", begun[-1][1], count))
 
-    def operand(self, it):
+    def operand(self, it: Term) -> Term:
         kind, what = it
         if kind == "term":
             return what
@@ -146,7 +153,7 @@ class Machine:
             return ("ptr", root, path)
         return term
 
-    def value(self, kind, *it):
+    def value(self, kind: str, *it: Any) -> Term:
         if kind == "use":
             return self.operand(it[0])
         if kind == "ref":
@@ -158,7 +165,7 @@ class Machine:
         if kind == "repeat":
             return ("repeat", *map(self.operand, it))
         if kind == "cast":
-            return cast(*it[:3], self.operand(it[3]))
+            return cast(it[0], it[1], it[2], self.operand(it[3]))
         if kind == "whole":
             return part(self.operand(it[0]), number(0, 64), it[1])
         if kind == "dyn":
@@ -177,13 +184,13 @@ class Machine:
 
     # ---- calls
 
-    def called(self, callee, terms):
+    def called(self, callee: Term, terms: Terms) -> Events:
         given = (shown("debug", *it[1:]) if it[0] == "dyn" else it for it in terms)
         return (yield ("call", callee, tuple(map(self.memory.seen, given))))
 
-    def call(self, callee, operands, place, lent, form):
+    def call(self, callee: Term, given: Terms, place: Term, lent: list[str], form: str) -> Events:
         """Runs a call: a row of what is known, or an event; what it is lent may have changed."""
-        terms = [self.operand(it) for it in operands]
+        terms = [self.operand(it) for it in given]
         result = yield from known(self, callee, terms)
         if result is None:
             result = yield from self.called(callee, terms)

@@ -7,14 +7,15 @@ import json
 import pathlib
 import re
 import sys
+from collections.abc import Iterable, Iterator
 
-import rattle
+import rust
 from machine import Machine
-from paths import Differs
-from rattle import kind_of, last, plain
+from packages import Sources
+from rattle import Body, Json, Library, kind_of, last, plain
 from rust import PLACE, bracketed, names, split
-from terms import UNIT
-from trees import form, is_type, joined, owners, parse, unreferenced
+from terms import UNIT, Term
+from trees import Aliases, Bound, Tree, Trees, form, is_type, joined, owners, parse, unreferenced
 
 sys.path.append(str(pathlib.Path(__file__).resolve().parents[1] / "erase"))
 from eraser import DERIVED
@@ -42,11 +43,15 @@ COMPARED = ("PartialEq", "PartialOrd", "Ord")
 FUNCTIONS = ("Fn", "FnMut", "FnOnce")
 
 
+class Differs(Exception):
+    """How two functions are not the same."""
+
+
 class Path:
     """A function or constant of Rust: its name, the type and the trait of its impl, if it has one,
     and what it is called with."""
 
-    def __init__(self, text, aliases, impl=None):
+    def __init__(self, text: str, aliases: Aliases, impl: Term | None = None) -> None:
         parts, (*self.module, self.name) = split(text, "::"), names(text)
         whose = split(parts[0][1:-1], " as ")[-1] if parts[0][0] == "<" else text
         self.is_of_std = whose.startswith("core::")
@@ -62,10 +67,10 @@ class Path:
         elif not impl and self.module and self.module[-1][0].isupper():
             # The last type before the name, with what it is given.
             end = max(n for n, it in enumerate(parts) if it.split("<")[0] == self.module[-1])
-            kind = parts[: end + 1 + (parts[end + 1][0] == "<")]
-            self.kind = parse("::".join(kind).replace("::<", "<"), aliases)
+            path = parts[: end + 1 + (parts[end + 1][0] == "<")]
+            self.kind = parse("::".join(path).replace("::<", "<"), aliases)
 
-    def keys(self, aliases):
+    def keys(self, aliases: Aliases) -> Iterator[tuple[str, Trees]]:
         """Yields the names that Rattle may have, each with the types that are no part of it."""
         if not self.kind:
             yield "::".join([*self.module, self.name]), []
@@ -84,7 +89,7 @@ class Path:
 class Names:
     """The functions of both sides, by name."""
 
-    def __init__(self, text, library, sources):
+    def __init__(self, text: rust.Text, library: Library, sources: Sources) -> None:
         self.text, self.library, self.sources, self.paths = text, library, sources, {}
         lines = "\n".join(it for lines in sources.lines.values() for it in lines)
         aliases = re.findall(r"^(?:pub(?:\(.*?\))? )?type (\w+) = (.+);", lines, re.M)
@@ -107,23 +112,22 @@ class Names:
         places = {function: "{closure@" + it + "}" for it, function in text.closures.items()}
         closures = {plain(one): places.get(other) for one, other in self.both.items()}
         library.closures = {one: it for one, it in closures.items() if it}
-        text.resolve, text.crates, library.order = self.constant, sources.crates, self.order()
+        text.resolve, library.order = self.constant, self.order()
 
-    def insert(self, found, key, name):
+    def insert(self, found: dict[str, str], key: str, name: str) -> None:
         if found.setdefault(key, name) != name:
             raise ValueError(f"{name} and {found[key]} are both {key}")
 
-    def path(self, text, impl=None):
+    def path(self, text: str, impl: Term | None = None) -> Path:
         if text not in self.paths:
             path = self.paths[text] = Path(text, self.aliases, impl)
             path.module[:1] = [self.sources.crates.get(it, it) for it in path.module[:1]]
         return self.paths[text]
 
-    def impl_at(self, name):
+    def impl_at(self, name: str) -> Term | None:
         """Returns the type, the trait and the parameters of the `impl`, or the `derive`, at the
         place that a name has, and whether it is derived."""
-        place = PLACE.search(name)
-        if not place:
+        if not (place := PLACE.search(name)):
             return None
         first, column, end, end_column = map(int, place.groups()[1:])
         lines = self.sources.lines[place[1]]
@@ -135,20 +139,20 @@ class Names:
         text = re.sub(r" where .*| \{.*", "", re.sub(r"\s+", " ", text))[4:]
         generics = bracketed(text) if text[0] == "<" else ""
         trait, _, of = (it.strip() for it in text[len(generics) :].rpartition(" for "))
-        of, trait = parse(of, self.aliases), parse(trait, self.aliases) if trait else None
+        kind, of_trait = parse(of, self.aliases), parse(trait, self.aliases) if trait else None
         own = [re.match(r"(?:const )?('?\w+)", it)[1] for it in split(generics[1:-1])]
-        return of, trait, False, [it for it in own if it[0] != "'"]
+        return kind, of_trait, False, [it for it in own if it[0] != "'"]
 
-    def found(self, path):
+    def found(self, path: Path) -> tuple[str | None, Trees]:
         """Returns the function of Rattle that a path of Rust names, and with what types."""
-        keys = path.keys(self.aliases) if path.kind else [(self.exported(path), [])]
+        keys = [*path.keys(self.aliases)] if path.kind else [(self.exported(path), [])]
         found = ((self.ours[it], rest) for it, rest in keys if it in self.ours)
-        of, rest = next(found, (None, []))
+        of, rest = next(found, (None, Trees()))
         own = re.search(r"[^+]\+(\w+)::\w+$", of or "")  # of an `impl` for these arguments alone
         is_own = own and own[1] in (it for it, _ in joined(rest, self.aliases))
         return of, [] if is_own else rest
 
-    def exported(self, path):
+    def exported(self, path: Path) -> str:
         """Returns the path of a function of no type, by the modules that re-export it. Those of the
         library's root are of `font_types`, but for what `src/lib.rs` names itself."""
         name = "::".join([*path.module, path.name])
@@ -158,7 +162,7 @@ class Names:
             name = self.exports[name]
         return name
 
-    def constant(self, text):
+    def constant(self, text: str) -> str | None:
         """Returns the constant of ours that a path names, or None. One of an impl with parameters
         is that of these parameters alone, as its value has their names."""
         path = self.path(text)
@@ -168,7 +172,7 @@ class Names:
             raise ValueError(f"the constant {text}, not of {self.theirs[found].kind}")
         return found
 
-    def closures(self):
+    def closures(self) -> dict[str, str]:
         """Pairs closures by the function that they are in, and their order there."""
         of_both = {plain(one): other for one, other in self.both.items()}
         some, found = collections.defaultdict(list), {}
@@ -181,7 +185,7 @@ class Names:
             found.update(zip(ours, theirs) if len(theirs) == len(ours) else ())
         return found
 
-    def are_one(self, one, text, body):
+    def are_one(self, one: str, text: str, body: Body) -> bool:
         """Returns whether a function that Rattle passes by its name, with types and impls, is that
         of a path: as if it were called there, or as the constructor of a variant."""
         (name, types, dicts), path = json.loads(one), self.path(text)
@@ -193,7 +197,7 @@ class Names:
         what = {"Fn": [name, {"types": types, "dicts": dicts}]}
         return self.fault((last(name), name, what), path, body) is None
 
-    def order(self):
+    def order(self) -> dict[tuple[str, int], str]:
         """Returns the names of the methods of traits, by their numbers in Rattle."""
         found = {("Read", 0): "read", ("Write", 0): "write"}
         for impl in self.library.impls.values():
@@ -206,13 +210,13 @@ class Names:
 
     # ---- whether both sides call the same
 
-    def require_types(self, left, right):
+    def require_types(self, left: Body, right: rust.Body) -> None:
         """Requires that parameters and result are of the same types. A closure has the type
         parameters of its function too."""
         outer = re.sub(r"::\{closure.*", "()", right.name)
         if outer != right.name:
             (one,) = (it for it, other in self.both.items() if other == outer)
-            around = rattle.Body(self.library, one)
+            around = Body(self.library, one)
             self.require_types(around, self.text.functions[outer])
             left.types = around.types
         types = [right.types["_0"], *(it for it, _ in right.parameters())]
@@ -228,7 +232,7 @@ class Names:
             left.types = {**{n: (name,) for n, name in enumerate(generics)}, **left.types}
         self.bind_associated(left)
 
-    def bind_associated(self, left):
+    def bind_associated(self, left: Body) -> None:
         """Binds the one type that is associated with a type parameter to how its name begins, and
         the others that no parameter shows to nothing."""
         for bound in left.body["generics"]["bounds"]:
@@ -240,28 +244,27 @@ class Names:
         for n in range(len(left.body["generics"]["types"])):
             left.types.setdefault(n, ())
 
-    def are_types(self, some, trees, bound):
+    def are_types(self, some: Json, trees: Iterable[Tree], bound: Bound) -> bool:
         closures = self.library.closures
         return all(is_type(form(a), b, bound, closures) for a, b in zip(some, trees))
 
     # A call by shared references alone changes nothing, and Rattle proves that it returns. So Rust
     # may leave it out, if nothing that both sides have depends on its result.
-    def is_idle(self, one, other, body):
+    def is_idle(self, one: Term, other: Term, body: Body) -> bool:
         """Returns whether only Rattle makes a call: of a method that is made for its contract."""
         way, what = kind_of(one[2])
         given = way == "Method" and body.body["generics"]["bounds"][what[0]["Given"]]["of"]
         is_own = other[0] == "call" and other[1][0] == one[0]
         return not is_own and (f"{given}::{one[0]}" if given else what[0]) in IDLE
 
-    def require(self, one, other, body):
+    def require(self, one: Term, other: Term, body: Body) -> None:
         own = OWN.get(one[0])
         if own and one[0] == other[0] and all(map(re.fullmatch, own, (one[1], other[1]))):
             return
-        fault = other[1] if one[0] != other[0] else self.fault(one, self.path(other[1]), body)
-        if fault:
+        if fault := other[1] if one[0] != other[0] else self.fault(one, self.path(other[1]), body):
             raise Differs(f"{one[1] or one[2]} is called, not {other[1]}: {fault}")
 
-    def fault(self, one, path, body):
+    def fault(self, one: Term, path: Path, body: Body) -> str | None:
         """Returns why a callee of Rattle is not the one of a path, or None."""
         way, what = kind_of(one[2])
         if way == "Method":
@@ -284,7 +287,7 @@ class Names:
 
     # Types of bounds have no signs, and Rust leaves out defaults, so that one bound alone may be of
     # the trait and the types that Rust names.
-    def bound_fault(self, what, path, body):
+    def bound_fault(self, what: Json, path: Path, body: Body) -> str | None:
         """Returns why a method of a bound is not the one of a path, or None."""
         (way, _, own), bounds = what, body.body["generics"]["bounds"]
         given, (trait, *types) = bounds[way["Given"]], path.trait or ("",)
@@ -297,7 +300,9 @@ class Names:
 
     # A type of Rattle has no signs, so the impl of a bound says that of its integer. Which of the
     # types are associated is known by places, and not by what would fit.
-    def types_fault(self, callee, what, rest, given, body):
+    def types_fault(
+        self, of: Json, what: Json, rest: Trees, given: Trees, body: Body
+    ) -> str | None:
         """Returns how types differ, those of an impl and of a function. Rattle counts associated
         types too, after the parameters of the impl or of the function."""
         cuts = {len(rest) + len(given), len(rest) if rest else len(given)}
@@ -305,17 +310,17 @@ class Names:
         count = len(types) - len(given)
         options = [[*range(cut), *range(cut + count, len(types))] for cut in cuts]
         if count and len(cuts) == 2:  # after either, or after both: as the bounds say
-            named = associated(callee)
+            named = associated(of)
             options = [[it for it in range(len(types)) if it not in named]]
         for places in options:
             bound, is_whole = dict(body.types), count >= 0 and len(places) == len(given)
             is_same = is_whole and self.are_types([types[it] for it in places], given, bound)
-            if is_same and self.are_signs(callee, what, dict(zip(places, given))):
+            if is_same and self.are_signs(of, what, dict(zip(places, given))):
                 body.types = bound
                 return None
         return f"{types} for {given}"
 
-    def are_signs(self, callee, what, given):
+    def are_signs(self, callee: Json, what: Json, given: Bound) -> bool:
         """Returns whether the impl of each bound is of the integer that Rust gives for its type."""
         for bound, by in zip(callee["generics"]["bounds"], what["dicts"]):
             kind, n = kind_of(bound["types"][0])
@@ -324,7 +329,7 @@ class Names:
                 return False
         return True
 
-    def std_fault(self, name, types, path, body):
+    def std_fault(self, name: str, types: Json, path: Path, body: Body) -> str | None:
         """Returns how the names of the type and trait of a function of `std` differ, or None."""
         of, method = key_of(name).split("::")
         keys = {it.split("::")[-2] for it, _ in path.keys(self.aliases)}
@@ -340,7 +345,7 @@ class Names:
 
     # ---- what is on one side alone
 
-    def alone(self):
+    def alone(self) -> tuple[collections.Counter[str], list[str]]:
         """Returns how many functions one side alone has, by the reason, and those without one."""
         reasons, errors, taken = collections.Counter(), [], set(self.both.values())
         closures = [it for it in self.text.functions if it.endswith("}()") and "{closure" in it]
@@ -352,7 +357,7 @@ class Names:
                 errors += [] if reason else [name]
         return reasons, errors
 
-    def reason_in_rattle(self, name):
+    def reason_in_rattle(self, name: str) -> str | None:
         if name in self.both:
             return None
         if is_declared(name):
@@ -363,7 +368,7 @@ class Names:
             return "of a module that is left out"
         return "an impl's copy of a trait's default" if self.is_default(name) else None
 
-    def reason_in_rust(self, name):
+    def reason_in_rust(self, name: str) -> str | None:
         path, function = self.theirs.get(name), self.text.functions[name]
         if path and path.derived and path.trait in (("Clone",), ("Eq",)):
             return "derived `Clone` or `Eq`"
@@ -377,10 +382,10 @@ class Names:
         is_made = re.fullmatch(rf"_0 = [\w:]+(?:::<.*>)?\({order}\);", made) and order
         return "the constructor of a tuple" if is_made and after == ["return;"] else None
 
-    def is_default(self, name):
+    def is_default(self, name: str) -> bool:
         """Returns whether a function calls the default of its trait, with its own parameters."""
-        machine = Machine(rattle.Body(self.library, name))
-        run = machine.run()
+        body = Body(self.library, name)
+        run = Machine(body).run()
         kind, *event = run.send(None)
         if kind != "call" or "Fn" not in event[0][2]:
             return False
@@ -389,27 +394,27 @@ class Names:
         *_, trait, called = path.split("::")
         dicts, own = [it.get("Impl", [""])[0] for it in given["dicts"]], plain(impl).endswith(trait)
         is_called = called == method and own and dicts[:1] == [impl]
-        result = UNIT if machine.function.locals[0] == "Unit" else ("ret", 0)
+        result = UNIT if body.locals[0] == "Unit" else ("ret", 0)
         is_returned = run.send(("ret", 0)) == ("return", result)
-        return is_called and terms == tuple(machine.function.arguments()) and is_returned
+        return is_called and terms == tuple(body.arguments()) and is_returned
 
 
-def key_of(name):
+def key_of(name: str) -> str:
     """Returns the path of a function of Rattle; in an impl or in std, its last two words."""
     *module, of, name = plain(name).split("::")
     is_short = of[0].isupper() or module[:1] == ["core"]
     return "::".join([of, name] if is_short else [*module, of, name])
 
 
-def module_of(path):
+def module_of(path: str) -> str:
     return "::".join(it for it in path.split("::")[:-1] if it[:1].islower() and it != "fn")
 
 
-def is_declared(name):
+def is_declared(name: str) -> bool:
     return re.search(r"\+\+|Destruct|\+decl$", name) is not None
 
 
-def associated(callee):
+def associated(callee: Json) -> set[int]:
     """Returns the numbers of the types that bounds have beside the type that they are of, except
     what a function takes and returns."""
     bounds = [it for it in callee["generics"]["bounds"] if last(it["of"]) not in FUNCTIONS]
@@ -417,13 +422,13 @@ def associated(callee):
     return {n for kind, n in others if kind == "Param"}
 
 
-def leaves(tree):
+def leaves(tree: Tree | Trees | None) -> Iterator[str]:
     """Yields the names in a type, or in some."""
     for it in tree or ():
         yield from leaves(it) if isinstance(it, tuple) else [it]
 
 
-def are_signs(signed, trees):
+def are_signs(signed: list[str], trees: Tree | Trees) -> bool:
     """Returns whether the integers in types are, in order, those that impls name, if they do."""
     theirs = [*dict.fromkeys(it for it in leaves(trees) if re.fullmatch(r"[iu](\d+|size)", it))]
     named = dict.fromkeys(it.lower() for it in signed)

@@ -4,6 +4,7 @@ import os
 import re
 import subprocess
 import tempfile
+from collections.abc import Iterator
 from pathlib import Path
 
 import declared
@@ -41,7 +42,7 @@ PATHS = r'("(?:\\.|[^"\\\n])*")|\b(?:(std)|font_types_proved)::(?=([A-Z])?)'
 class Sources:
     """The erased files, and of which crates, modules and files of Rattle they are."""
 
-    def __init__(self, root):
+    def __init__(self, root: Path) -> None:
         self.crates, self.modules, self.lines, self.files = {}, set(), {}, {}
         self.by_hand = declared.words((root / "src/lib.rs").read_text(), "crate").split()
         for package, _, folder, module in PACKAGES:
@@ -53,8 +54,7 @@ class Sources:
             for path in sorted((root / folder).rglob("*.rs")):
                 text, first = path.read_text(), module or path.relative_to(root / folder).parts[0]
                 self.lines[str(path.relative_to(root))] = text.split("\n")
-                head = re.match(r"// @generated from crates/(\w+)/src/(.*)\.rt ", text)
-                if head:
+                if head := re.match(r"// @generated from crates/(\w+)/src/(.*)\.rt ", text):
                     self.files[f"{head[1]}/src/{head[2]}.rt"] = str(path.relative_to(root))
                     self.modules.add("::".join(head[1].split() + head[2].split("/")))
                     self.crates[first.removesuffix(".rs")] = head[1]
@@ -62,7 +62,7 @@ class Sources:
         if len(self.lines) != len(self.files) + 2:
             raise ValueError("a generated file is of no source, or two are of one")
 
-    def exports(self):
+    def exports(self) -> Iterator[tuple[str, str]]:
         """Yields the path that a module gives to what it re-exports, and the one that this has."""
         for file, lines in self.lines.items():
             for of, some in re.findall(EXPORT, "\n".join(lines), re.M):
@@ -71,25 +71,25 @@ class Sources:
                 for name in re.findall(r"\w+", some):
                     yield f"{module}::{name}", f"{inner}::{name}"
 
-    def module(self, file):
+    def module(self, file: str) -> str:
         """Returns the module that an erased file is."""
         folder, module = next(it[2:] for it in PACKAGES if file.startswith(it[2]))
         parts = Path(file).relative_to(folder).with_suffix("").parts
         return "::".join(it for it in (module, *parts) if it not in ("", "mod"))
 
 
-def as_in_library(text):
+def as_in_library(text: str) -> str:
     """Returns MIR with the paths that it has in the library."""
     crate = lambda it: it[1] or ("core::" if it[2] else "font_types::" if it[3] else "")
     return re.sub(PATHS, crate, text)
 
 
-def printed(root, package, target):
+def printed(root: Path, package: str, target: str) -> str:
     """Returns the MIR of a target, with the paths that it has in the library."""
     with tempfile.TemporaryDirectory() as room:
         cargo = ["cargo", "rustc", "--quiet", target, "--target-dir", room, "--", *FLAGS]
-        how = {"check": True, "env": os.environ | ENVIRONMENT, "capture_output": True, "text": True}
-        subprocess.run(cargo, cwd=root / package, **how)
+        where, env = root / package, os.environ | ENVIRONMENT
+        subprocess.run(cargo, cwd=where, env=env, check=True, capture_output=True, text=True)
         folder = "examples" if "example" in target else "deps"
         (file,) = Path(room, "debug", folder).glob("*.mir")
         text = as_in_library(file.read_text())

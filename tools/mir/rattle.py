@@ -3,21 +3,24 @@ read is an error, as of a toolchain that writes another form."""
 
 import json
 import re
+from collections.abc import Iterable, Iterator
+from typing import Any
 
 from machine import Function
 from std import integer_of
-from terms import FALSE, TRUE, UNIT, number
+from terms import FALSE, TRUE, UNIT, Term, number
 
+Json = Any
 
 # How many bytes a type has, and of what its places are multiples.
 LAYOUTS = {"Unit": (0, 1), "Bool": (1, 1), "Ref": (8, 8), "Struct": (16, 8)}
 
 
-def last(path):
+def last(path: str) -> str:
     return path.split("::")[-1].split("+")[0]
 
 
-def plain(name):
+def plain(name: str) -> str:
     """Returns a name of Rattle without what it adds to the name of an `impl`."""
     return re.sub(r"\+\w+", "", name)
 
@@ -25,7 +28,7 @@ def plain(name):
 class Library:
     """The functions of some crates, with the types and impls that they use."""
 
-    def __init__(self, crates):
+    def __init__(self, crates: Iterable[Json]) -> None:
         self.bodies, self.types, self.impls, self.methods = {}, {}, {}, []
         self.order, self.closures = {}, {}  # methods by trait and number, and closures of Rust
         for functions in crates:
@@ -41,17 +44,17 @@ class Library:
         self.nothing = {name for name, it in self.bodies.items() if is_nothing(it["body"])}
 
 
-def kind_of(of):
+def kind_of(of: Json) -> tuple[str, Json]:
     """Returns the kind of a type, with what it is of."""
     return next(iter(of.items())) if isinstance(of, dict) else (of, None)
 
 
-def is_slice(of):
+def is_slice(of: Json) -> bool:
     return kind_of(of)[0] == "Struct" and of["Struct"][0].startswith("&")
 
 
 class Body(Function):
-    def __init__(self, library, name):
+    def __init__(self, library: Library, name: str) -> None:
         super().__init__(name)
         self.library, self.body, self.types = library, library.bodies[name], {}
         self.locals, self.count = [it["ty"] for it in self.body["locals"]], self.body["params"]
@@ -66,30 +69,30 @@ class Body(Function):
                 if self.arrays.setdefault(it["local"], array) != array:
                     raise ValueError(f"a pointer to {array} and {self.arrays[it['local']]}")
 
-    def returned(self, result):
+    def returned(self, result: Term) -> Term:
         if self.name.endswith("Clone::clone") and result[:2] == ("agg", 0):
             (result,) = result[2]  # it may fail in Rattle, for want of memory
         return result
 
     # ---- statements
 
-    def block(self):
+    def block(self) -> int:
         """Begins a block, and returns its label."""
         self.now = self.blocks[len(self.blocks)] = []
         return len(self.blocks) - 1
 
-    def lower(self):
+    def lower(self) -> None:
         self.block()
         self.statement(iter(self.tokens), [])
 
-    def inner(self, tokens, ends, after):
+    def inner(self, tokens: Iterator[Json], ends: list[int | None], after: int) -> int:
         """Reads a statement as a block, from which it goes on to another, and returns its label."""
         label = self.block()
         self.statement(tokens, ends)
         self.now.append(("goto", after))
         return label
 
-    def statement(self, tokens, ends):
+    def statement(self, tokens: Iterator[Json], ends: list[int | None]) -> None:
         """Reads the next statement of the tokens, with those in it."""
         kind, it = kind_of(next(tokens))
         if kind == "Seq":
@@ -127,7 +130,7 @@ class Body(Function):
         elif kind != "Skip":
             raise ValueError(f"a statement {kind}")
 
-    def static(self, what):
+    def static(self, what: Json) -> Term:
         kind, it = kind_of(what)
         if kind == "Ints":
             values = tuple(number(n, it["width"]) for n in it["values"])
@@ -140,17 +143,17 @@ class Body(Function):
 
     # ---- places
 
-    def shape(self, of):
+    def shape(self, of: Json) -> Json:
         kind, named = kind_of(of)
         found = self.library.types[named[0]["name"]]["shape"] if kind == "Named" else {}
         return found if isinstance(found, dict) else {}
 
-    def walk(self, place):
+    def walk(self, place: Json) -> Iterator[tuple[Term | None, Json]]:
         """Yields the steps of a place with the type after each, first that of the local."""
         of, variant = self.locals[place["local"]], None
         yield None, of
         for kind, n in map(kind_of, place["steps"]):
-            step = None
+            step: Term | None = None
             if kind == "Deref":
                 step, of = ("*",), n
             elif kind == "Field" and is_slice(of):
@@ -160,7 +163,7 @@ class Body(Function):
                 is_enum = "Variants" in fields
                 step = ("f", variant, n - is_enum) if n or not is_enum else ("tag",)
                 fields = fields["Variants"][variant or 0] if is_enum else fields["Fields"]
-                inner = fields[step[2]] if step[0] == "f" else {"Int": 8}
+                inner = fields[n - is_enum] if n or not is_enum else {"Int": 8}
                 of = named[inner["Param"]] if "Param" in inner else inner
             elif kind != "Variant":
                 raise ValueError(f"a step {kind}")
@@ -168,20 +171,20 @@ class Body(Function):
             if step:
                 yield step, of
 
-    def type_of(self, place):
+    def type_of(self, place: Json) -> Json:
         return [*self.walk(place)][-1][1]
 
-    def place(self, place):
+    def place(self, place: Json) -> Term:
         return place["local"], tuple(step for step, _ in self.walk(place) if step)
 
-    def size(self, of):
+    def size(self, of: Json) -> Term:
         """Returns how many bytes a type has, as a term."""
         layout = self.layout(of)
         return number(layout[0], 64) if layout else ("size", json.dumps(of))
 
     # Rattle places fields in the order of the source, each at a multiple of its alignment. Of an
     # enum with fields, and of 128 bits, the size is not known, and so no index by a distance.
-    def layout(self, of):
+    def layout(self, of: Json) -> tuple[int, int] | None:
         """Returns how many bytes a type has, and of what its places are multiples, or None: the
         fields lie in the order of the source."""
         kind, it = kind_of(of)
@@ -201,13 +204,13 @@ class Body(Function):
             end, whole = -(-end // multiple) * multiple + size, max(whole, multiple)
         return None if None in fields else (-(-end // whole) * whole, whole)
 
-    def borrowed(self, place):
+    def borrowed(self, place: Json) -> Json:
         """Returns the array to which a reference to a place is a pointer, or None."""
         of = self.type_of(place)
         is_same = len(place["steps"]) == 1 and "Deref" in place["steps"][0] and "Array" not in of
         return self.array({**place, "steps": []}) if is_same else of if "Array" in of else None
 
-    def array(self, place):
+    def array(self, place: Json) -> Json:
         """Returns the type of the array to which what a place has is a pointer, or None."""
         kind, of = kind_of(self.type_of(place))
         found = None if place["steps"] else self.arrays.get(place["local"])
@@ -216,7 +219,7 @@ class Body(Function):
 
     # ---- values
 
-    def operand(self, it):
+    def operand(self, it: Json) -> Term:
         if it in ("True", "False", "Unit"):
             return ("term", {"True": TRUE, "False": FALSE, "Unit": UNIT}[it])
         kind, what = kind_of(it)
@@ -230,13 +233,13 @@ class Body(Function):
             return ("term", self.size(what))
         raise ValueError(f"an operand {it}")
 
-    def amount(self, of, bits=64):
+    def amount(self, of: Json, bits: int = 64) -> Term:
         kind, n = kind_of(of) if isinstance(of, dict) else ("Lit", of)
         if kind not in ("Lit", "Const", "Param"):
             raise ValueError(f"a number {of}")
         return ("gen", self.types[n][0]) if kind == "Param" else number(n, bits)
 
-    def operand_type(self, it):
+    def operand_type(self, it: Json) -> Json:
         kind, what = kind_of(it)
         if kind in ("Copy", "Move"):
             return self.type_of(what)
@@ -244,11 +247,11 @@ class Body(Function):
             return {"Int": what["width"] if kind == "Int" else what[0]}
         return "Unit" if it == "Unit" else "Bool"
 
-    def width(self, operand):
+    def width(self, operand: Json) -> int:
         of = self.operand_type(operand)
         return 1 if of == "Bool" else of["Int"]
 
-    def pointer(self, operand):
+    def pointer(self, operand: Json) -> tuple[Term, Term | None, Term]:
         """Returns what is a pointer to an element, the length of the array if it is to one, and
         how many bytes an element has."""
         place = operand["Copy"]
@@ -256,7 +259,7 @@ class Body(Function):
         of, count = array["Array"] if array else (kind_of(self.type_of(place))[1][2], None)
         return ("raw", self.place(place)), array and self.amount(count), self.size(of)
 
-    def value(self, place, value):
+    def value(self, place: Json, value: Json) -> Term:
         kind, it = kind_of(value)
         if kind == "Opd":
             return ("use", self.operand(it))
@@ -281,7 +284,7 @@ class Body(Function):
         b = ("amount", b) if name in ("Shl", "Shr") else b
         return (name, sign == "Signed", self.width(it[1]), a, b)
 
-    def aggregate(self, of, operands):
+    def aggregate(self, of: Json, operands: list[Json]) -> Term:
         if is_slice(of):
             return ("slice", *self.pointer(operands[0])[:2], self.operand(operands[1]))
         parts, (kind, named) = [*map(self.operand, operands)], kind_of(of)
@@ -292,7 +295,7 @@ class Body(Function):
 
     # ---- calls
 
-    def call(self, of, operands, place):
+    def call(self, of: Json, operands: list[Json], place: Json) -> None:
         path, method = of["Fn"][0] if "Fn" in of else "", self.method(of)
         if path in self.library.nothing:
             return
@@ -305,16 +308,16 @@ class Body(Function):
         form = "unit" if self.type_of(place) == "Unit" else "clone" if is_clone else None
         self.now.append(("call", (method, path, of), terms, self.place(place), lent, form))
 
-    def temporary(self, value):
+    def temporary(self, value: Term) -> Term:
         self.now.append(("set", ("temporary", ()), value))
         return ("raw", ("temporary", ()))
 
-    def lent(self, operand):
+    def lent(self, operand: Json) -> str:
         kind, inner = kind_of(self.operand_type(operand))
         kind, inner = kind_of(inner[1][0]) if kind == "Struct" else (kind, inner)
         return "" if kind != "Ref" else "mut" if inner[1] == "Mut" else "&"
 
-    def operands(self, of, operands):
+    def operands(self, of: Json, operands: list[Json]) -> list[Term]:
         """Returns the operands. A function by its name is a unit and an impl of `Fn`, with the
         types and the impls that it is called with."""
         given = of["Fn"][1]["dicts"] if "Fn" in of else ()
@@ -325,7 +328,7 @@ class Body(Function):
         terms = map(self.operand, operands)
         return [next(functions, it) if it == ("term", UNIT) else it for it in terms]
 
-    def method(self, of):
+    def method(self, of: Json) -> str | None:
         if "Fn" in of:
             return last(of["Fn"][0])
         way, n, _ = of["Method"]

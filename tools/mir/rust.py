@@ -4,9 +4,10 @@ statement, terminator, right side and constant has a known form."""
 import ast
 import functools
 import re
+from collections.abc import Callable, Iterable, Iterator, Sequence
 
 from machine import Function
-from terms import FALSE, TRUE, UNIT, length, number, text_of, value, width
+from terms import FALSE, TRUE, UNIT, Term, length, number, text_of, value, width
 
 PLACE = re.compile(r"<impl at ([^:>]*):(\d+):(\d+): (\d+):(\d+)>")
 CLOSURE = re.compile(r"\{closure@([^}]*)\}")
@@ -42,7 +43,7 @@ UNDROPPED = "core::result::Result<usize, core::io::Error>"
 NAMED = re.compile(r'"(?:\\.|[^"\\\n])*"|(?<![\w:>])((?:[a-z_]\w*::)+)([A-Z]\w*[a-z]\w*)')
 
 
-def outside(text, at):
+def outside(text: str, at: Iterable[str]) -> Iterator[int]:
     """Yields the places of some texts in one where no bracket or literal is open."""
     some, depth = "|".join(map(re.escape, at)), 0
     for it in re.finditer(rf"\"(\\.|[^\"\\])*\"|'(\\.[^']*|[^'\\])'|->|=>|({some})|.", text):
@@ -53,7 +54,8 @@ def outside(text, at):
 
 
 @functools.cache
-def split(text, at=","):
+def split(text: str, at: str = ",") -> tuple[str, ...]:
+    """Returns the parts of a text between these signs, where no bracket or literal is open."""
     start, parts = 0, []
     for n in outside(text, [at]):
         parts.append(text[start:n].strip())
@@ -61,37 +63,38 @@ def split(text, at=","):
     return tuple(it for it in (*parts, text[start:].strip()) if it)
 
 
-def bracketed(text):
+def bracketed(text: str) -> str:
     """Returns a text up to the bracket that closes the one with which it begins."""
     return text[: next(outside(text, ")]}>")) + 1]
 
 
 @functools.cache
-def head(text):
+def head(text: str) -> str:
     """Returns the path with which a text begins: to a `(`, a ` {`, or `: `."""
     return text[: next(outside(text, ["(", " {", ": "]), len(text))]
 
 
 @functools.cache
-def names(path):
+def names(path: str) -> list[str]:
+    """Returns the names in a path, without what they are given."""
     return [it.split("<")[0] for it in split(path, "::") if it[0] != "<"]
 
 
-def last(path):
+def last(path: str) -> str:
     return names(path)[-1]
 
 
-def unreferenced(of):
+def unreferenced(of: str) -> str:
     return re.sub(r"^&('\w+ )?(mut )?", "", of.strip())
 
 
 class Text:
     """The functions and constants of some packages, and what their sources declare."""
 
-    def __init__(self, sources):
+    def __init__(self, sources: Iterable[list[str]]) -> None:
         self.variants, self.values, self.declared = dict(VARIANTS), {"Ordering": [-1, 0, 1]}, set()
         self.functions, self.closures, self.constants, self.used = {}, {}, {}, set()
-        self.resolve, self.crates = None, {}  # which constant a path names; crates of modules
+        self.resolve: Callable[[str], str] = None  # which constant a path names
         for source in map("\n".join, sources):
             for name in re.findall(DECLARED, source, re.M):
                 self.require_new(name)
@@ -101,7 +104,7 @@ class Text:
             for name, of in re.findall(r"\bconst (\w+): ([^=;]+)(?: =|;)", source):
                 self.constants.setdefault(name, set()).add(of)
 
-    def add_enum(self, name, variants):
+    def add_enum(self, name: str, variants: Sequence[str]) -> None:
         found, values = [re.fullmatch(VARIANT, it, re.S) for it in variants], []
         if None in found:
             raise ValueError(f"the variants of {name}: {variants}")
@@ -110,11 +113,11 @@ class Text:
             values.append(int(it[2]) if it[2] else (values or [-1])[-1] + 1)
         self.values.update({name: values} if any(it[2] for it in found) else {})
 
-    def require_new(self, name):
+    def require_new(self, name: str) -> None:
         if name in self.declared:
             raise ValueError(f"two types or traits are named {name}")
 
-    def read(self, text, crates):
+    def read(self, text: str, crates: set[str]) -> None:
         """Reads what rustc prints of these crates in one package, each function once."""
         for name in set(re.findall(r"\b(?:core|alloc)::(?:\w+::)*([A-Z]\w*)", text)):
             self.require_new(name)
@@ -144,7 +147,7 @@ class Text:
 class Body(Function):
     """A function or a constant, with its types and lines."""
 
-    def __init__(self, text, line):
+    def __init__(self, text: Text, line: str) -> None:
         kind, _, rest = line.partition(" ")
         kind, rest = (kind, rest) if kind in ("fn", "const", "static") else ("const", line)
         self.text, self.path, self.temporaries = text, head(rest), 0
@@ -158,17 +161,15 @@ class Body(Function):
             if not line.endswith("{"):
                 self.lines = {0: [f"_0 = {rest.split(' = ', 1)[1]}", "return;"]}
 
-    def read(self, line):
-        local = re.match(r"let (?:mut )?(_\d+): (.*);", line)
-        block = re.match(r"bb(\d+)(?: \(cleanup\))?: \{", line)
-        if local:
+    def read(self, line: str) -> None:
+        if local := re.match(r"let (?:mut )?(_\d+): (.*);", line):
             self.types[local[1]] = local[2]
-        elif block:
-            self.now = self.lines[int(block[1])] = []
+        elif block := re.match(r"bb(\d+)(?: \(cleanup\))?: \{", line):
+            self.block = self.lines[int(block[1])] = []
         elif not IGNORED.match(line):
-            self.now.append(line)
+            self.block.append(line)
 
-    def parameters(self):
+    def parameters(self) -> Iterator[tuple[str, list[Term]]]:
         """Yields the type of each parameter of Rattle, and the terms that it is here: for C, a
         slice is a pointer and its length."""
         types, n = [self.types[f"_{it + 1}"] for it in range(self.count)], 0
@@ -182,12 +183,12 @@ class Body(Function):
             else:
                 yield of, [one]
 
-    def arguments(self):
+    def arguments(self) -> list[Term]:
         return [it for _, terms in self.parameters() for it in terms]
 
     # ---- statements
 
-    def lower(self):
+    def lower(self) -> None:
         self.enums = {}  # of which enum a local has the discriminant
         for line in (it for lines in self.lines.values() for it in lines):
             tag = re.fullmatch(r"(_\d+) = (?:discriminant\((.*)\)|(?:copy|move) (_\d+));", line)
@@ -202,7 +203,7 @@ class Body(Function):
             for line in lines:
                 self.statement(line)
 
-    def statement(self, line):
+    def statement(self, line: str) -> None:
         ended, assigned = ENDED.fullmatch(line), re.fullmatch(r"([_(].*?) = (.*);", line)
         text, label = (ended[1], ended[2] or ended[3]) if ended else (line, None)
         goto = ("goto", int(label)) if label else ("dead",)
@@ -219,73 +220,71 @@ class Body(Function):
         else:
             raise ValueError(line)
 
-    def goes_on(self, _):
+    def goes_on(self, _: str) -> None:
         pass
 
-    def index_check(self, operands):
+    def index_check(self, operands: str) -> None:
         self.now.append(("index", *self.operands(operands)))
 
-    def drop(self, place):
+    def drop(self, place: str) -> None:
         if self.types.get(place) == UNDROPPED:
             return
         given = [("copy", self.place(place))]
         self.now.append(("call", ("drop", "drop", None), given, ("unused", ()), "&", "unit"))
 
-    def call(self, to, text):
+    def call(self, to: str, text: str) -> None:
         path, form = head(text), "unit" if self.types.get(to) == "()" else None
         given = split(text[len(path) + 1 : -1])
         terms, lent = [*map(self.operand, given)], [*map(self.lent, given)]
         self.now.append(("call", (last(path), path, None), terms, self.place(to), lent, form))
 
-    def lent(self, operand):
+    def lent(self, operand: str) -> str:
         """Returns "mut" or "&" for such a reference; "mut" if the type is not known."""
         if not operand.startswith(("move ", "copy ")):
             return ""
         of = self.type_of(operand)
         return "mut" if not of or re.match(r"&('\w+ )?mut ", of) else of[:1]
 
-    def enum(self, operand):
+    def enum(self, operand: str) -> str | None:
         return self.enums.get(operand.split(" ")[-1])
 
-    def switch(self, operand, arms, default):
-        of, enum, operand = self.type_of(operand), self.enum(operand), self.operand(operand)
-        values, arms = self.text.values.get(enum), [it.split(": bb") for it in split(arms)]
+    def switch(self, operand: str, texts: str, otherwise: str) -> None:
+        of, enum, term = self.type_of(operand), self.enum(operand), self.operand(operand)
+        values, pairs = self.text.values.get(enum), [it.split(": bb") for it in split(texts)]
         # A discriminant is printed without a sign.
         raw = lambda n: values.index(value(number(n, width(of)), True)) if values else n
-        arms = sorted((raw(int(n)), int(label)) for n, label in arms)
-        default = None if self.lines[int(default)] == ["unreachable;"] else int(default)
-        self.now.append(("switch", (operand, 8 if enum else width(of)), arms, default))
+        arms = sorted((raw(int(n)), int(label)) for n, label in pairs)
+        default = None if self.lines[int(otherwise)] == ["unreachable;"] else int(otherwise)
+        self.now.append(("switch", (term, 8 if enum else width(of)), arms, default))
 
     # ---- places
 
-    def place(self, text):
+    def place(self, text: str) -> Term:
         place, rest = self.parse(text)
         if rest:
             raise ValueError(f"the place {text}")
         return place
 
-    def parse(self, text):
+    def parse(self, text: str) -> tuple[Term, str]:
         """Reads the place with which a text begins, and returns what is after it."""
-        found = re.match(r"_(\d+)", text)
-        if found:
-            (local, steps), rest = (int(found[1]), ()), text[found.end() :]
-        else:
+        if not (found := re.match(r"_(\d+)", text)):
             (local, steps), rest = self.parse(text[2 if text.startswith("(*") else 1 :])
-            variant, field = re.match(r" as (\w+)", rest), re.match(r"\.(\d+): ", rest)
-            if variant:
+            if variant := re.match(r" as (\w+)", rest):
                 steps = (*steps, self.variant(variant[1]))
-            elif field:
+            elif field := re.match(r"\.(\d+): ", rest):
                 of = steps[-1] if steps and isinstance(steps[-1], int) else None
                 steps = (*(steps if of is None else steps[:-1]), ("f", of, int(field[1])))
             else:
                 steps = (*steps, ("*",))
             rest = text[len(bracketed(text)) :]
+        else:
+            (local, steps), rest = (int(found[1]), ()), text[found.end() :]
         while rest.startswith("["):
             inner, rest = rest[1:].split("]", 1)
             steps = (*steps, self.index(inner))
         return (local, steps), rest
 
-    def index(self, inner):
+    def index(self, inner: str) -> Term:
         """Returns the step to an element, or, by a pattern, to elements from both ends."""
         one, some = re.fullmatch(r"(-?)(\d+) of \d+", inner), re.fullmatch(r"(\d*):-?(\d*)", inner)
         if inner.startswith("_"):
@@ -296,13 +295,13 @@ class Body(Function):
             raise ValueError(f"the part {inner} of an array")
         return ("win", int(some[1] or 0), int(some[2] or 0))
 
-    def variant(self, name):
+    def variant(self, name: str) -> int:
         (found,) = {it.index(name) for it in self.text.variants.values() if name in it}
         return found
 
     # ---- values
 
-    def type_of(self, text):
+    def type_of(self, text: str) -> str:
         """Returns the type of an operand, as far as its text says it."""
         text = re.sub("^(copy|move|const) ", "", text)
         literal = re.fullmatch(r"-?\d+_(\w+)|\(.*\.\d+: ([^()]*)\)", text)
@@ -323,14 +322,13 @@ class Body(Function):
         of_trait = next(iter(types)) if len(types) == 1 else ""
         return self.text.functions[name].types["_0"] if name else of_trait
 
-    def operand(self, text):
+    def operand(self, text: str) -> Term:
         if text[:5] in ("move ", "copy "):
             return ("copy", self.place(text[5:]))
         if not text.startswith("const "):
             return ("term", ("fn", text))
         text = text.removeprefix("const ")
-        term = self.term(text)
-        if term:
+        if term := self.term(text):
             return ("term", term)
         self.temporaries += 1
         place = (f"constant {self.temporaries}", ())
@@ -343,15 +341,14 @@ class Body(Function):
             self.now.append(("constant", place, self.text.functions[name]))
         return ("copy", place)
 
-    def operands(self, text):
+    def operands(self, text: str) -> Term:
         return tuple(map(self.operand, split(text)))
 
-    def term(self, text):
+    def term(self, text: str) -> Term | None:
         """Returns a constant that needs no code, or None."""
-        integer, limit = re.fullmatch(r"(-?\d+)(?:_(\w+))?", text), LIMIT.fullmatch(text)
-        if integer:
+        if integer := re.fullmatch(r"(-?\d+)(?:_(\w+))?", text):
             return number(int(integer[1]), width(integer[2] or "usize"))
-        if limit:
+        if limit := LIMIT.fullmatch(text):
             bits, signed = width(limit[1]), limit[1][0] == "i"
             n = {"MAX": (1 << bits - signed) - 1, "MIN": signed << bits - 1, "BITS": bits}
             return number(n[limit[2]], 32 if limit[2] == "BITS" else bits)
@@ -360,28 +357,25 @@ class Body(Function):
         known = {"true": TRUE, "false": FALSE, "()": UNIT, **STATUSES}
         return known.get(text) or (("gen", text) if re.fullmatch("[A-Z]+", text) else None)
 
-    def value(self, text):
-        operation = OPERATION.fullmatch(text)
-        unary = re.fullmatch(r"(discriminant|PtrMetadata)\((?:copy |move )?(.*)\)", text)
-        borrowed = re.fullmatch(r"&(?:mut |raw const \(fake\) )?([_(].*)", text)
-        if operation:
+    def value(self, text: str) -> Term:
+        if operation := OPERATION.fullmatch(text):
             return self.operated(operation[1].removeprefix("Bit"), split(operation[2]))
-        if unary:
+        if unary := re.fullmatch(r"(discriminant|PtrMetadata)\((?:copy |move )?(.*)\)", text):
             local, steps = self.place(unary[2])
             step = "tag" if unary[1] == "discriminant" else "len"
             return ("use", ("copy", (local, (*steps, (step,)))))
-        if borrowed:
+        if borrowed := re.fullmatch(r"&(?:mut |raw const \(fake\) )?([_(].*)", text):
             return ("ref", self.place(borrowed[1]))
         if text[:5] in ("copy ", "move ", "const"):
             operand, *to = split(text, " as ")
             return self.casted(operand, *to) if to else ("use", self.operand(operand))
         return self.aggregate(text)
 
-    def aggregate(self, text):
+    def aggregate(self, text: str) -> Term:
         item, *count = split(text[1:-1], ";") or ("",)
         if text[0] == "[" and count:
-            count = count[0].removeprefix("const ")
-            return ("repeat", self.operand(item), self.operand("const " + count))
+            size = "const " + count[0].removeprefix("const ")
+            return ("repeat", self.operand(item), self.operand(size))
         closure = CLOSURE.match(text)
         path = closure[0] if closure else head(text) if text[0] not in "[(" else ""
         parts, found = text[len(path) :].strip()[1:-1].strip(", "), names(path)
@@ -394,7 +388,7 @@ class Body(Function):
             raise ValueError(f"{path} is no type that is known: {text}")
         return ("agg", ("closure", path) if closure else variant, self.operands(parts))
 
-    def operated(self, name, operands):
+    def operated(self, name: str, operands: Sequence[str]) -> Term:
         typed = operands[:1] if name in ("Shl", "Shr") else operands  # not the amount's type
         of, terms = next(filter(None, map(self.type_of, typed)), ""), map(self.operand, operands)
         bits, signed = width(of), of[:1] == "i"
@@ -407,15 +401,14 @@ class Body(Function):
         zero = [("term", number(0, bits))] if name == "Neg" else []
         return ("Sub" if zero else name, signed, bits, *zero, *terms)
 
-    def casted(self, operand, text):
+    def casted(self, operand: str, text: str) -> Term:
         to, how = re.fullmatch(r"(.*) \((IntToInt|PointerCoercion\(Unsize, .*\))\)", text).groups()
         of, enum, term = self.type_of(operand), self.enum(operand), self.operand(operand)
         if enum in self.text.values:
             raise ValueError(f"a discriminant that is not the number of a variant: {text}")
         if how == "IntToInt":
             return ("cast", of[0] == "i", 8 if enum else width(of), width(to), term)
-        array = re.fullmatch(r"\[.*; (.*)\]", unreferenced(of))
-        if array:
+        if array := re.fullmatch(r"\[.*; (.*)\]", unreferenced(of)):
             return ("whole", term, self.term(array[1]))
         # It is a value as one of any type, for `Debug`.
         kind = re.sub(r"&|'\w+ |mut ", "", of)
@@ -424,7 +417,7 @@ class Body(Function):
 
 # How a statement that ends a block is read. What is asserted before a division has a check of its
 # own.
-FORMS = (
+FORMS: tuple[tuple[str, Callable[..., None]], ...] = (
     (r'goto|assert\(!move _\d+, "attempt to (divide|calculate|compute `\{\} [/%]).*', Body.goes_on),
     (r'assert\(move _\d+, "index out of bounds:[^"]*", (.*)\)', Body.index_check),
     (r"drop\((.*)\)", Body.drop),
@@ -432,7 +425,7 @@ FORMS = (
 )  # fmt: skip
 
 
-def literal_of(text):
+def literal_of(text: str) -> Term:
     escape = lambda it: "\\U" + it[2].zfill(8) if it[2] else "\\x00" if it[1] == "0" else it[0]
     found = ast.literal_eval(re.sub(r"\\(u\{(\w+)\}|.)", escape, text))
     if text[0] == "b":

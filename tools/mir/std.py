@@ -1,45 +1,50 @@
 """What `core` has on one side in another form than on the other: each row with its reason. What is
 in no row is called on both sides, as a function of one name, type and trait."""
 
+from __future__ import annotations
+
 import json
 import re
 import types
+from typing import TYPE_CHECKING, Any
 
-from terms import FALSE, at, cast, compared, length, number, operation, part, place_of
-from terms import pointer, project, referred, tag, text_of, width
+from terms import FALSE, Events, Term, Terms, at, cast, compared, length, number, operation, part
+from terms import place_of, pointer, project, referred, tag, text_of, width
+
+if TYPE_CHECKING:
+    from machine import Machine
 
 ZERO = number(0, 64)
 
 
-def known(body, callee, terms):
+def known(body: Machine, callee: Term, terms: Terms) -> Events:
     """Returns the result of what is called, by the row that it has, or None."""
     for pattern, _, run in KNOWN:
-        found = pattern.fullmatch(callee[1])
-        if found:
+        if found := pattern.fullmatch(callee[1]):
             result = run(body, found, terms, callee)
             return (yield from result) if isinstance(result, types.GeneratorType) else result
     return None
 
 
-def widened(body, found, terms, callee):
+def widened(body: Machine, found: re.Match[str], terms: Terms, callee: Term) -> Term:
     to, of = found[1].lower(), found[2].lower()
     return cast(of[0] == "i", width(of), width(to), terms[0])
 
 
-def integers_equal(body, kind, name, terms, references=""):
+def integers_equal(body: Machine, kind: str, name: str, terms: Terms, references: str = "") -> Term:
     for _ in ("&", *references):
         terms = [body.memory.read(place_of(it)) for it in terms]
     return compared(name.title(), False, width(kind.lower()), *terms)
 
 
-def diverging(*_):
+def diverging(*_: Any) -> Events:
     yield ("dead",)
 
 
 # ---- slices, and iterators in a `for`
 
 
-def sliced(body, found, terms, callee):
+def sliced(body: Machine, found: re.Match[str], terms: Terms, callee: Term) -> Term:
     whole = body.function.term(found[1]) if found[1] else length(terms[0])
     bounds = {"Range": (0, 1), "RangeTo": (None, 0), "RangeFrom": (0, None)}[found[2]]
     first, end = (None if it is None else project(terms[1], ("f", None, it)) for it in bounds)
@@ -48,20 +53,20 @@ def sliced(body, found, terms, callee):
     return part(terms[0], first or ZERO, count)
 
 
-def slice_of_c(body, found, terms, callee):
+def slice_of_c(body: Machine, found: re.Match[str], terms: Terms, callee: Term) -> Term:
     if terms[0][0] != "ptr_of" or terms[1] != length(terms[0][1]):
         raise ValueError(f"a slice of {terms}")
     return terms[0][1]
 
 
-def into_iter(body, found, terms, callee):
+def into_iter(body: Machine, found: re.Match[str], terms: Terms, callee: Term) -> Term:
     if found[1].startswith("core"):
         return terms[0]
     whole = part(terms[0], ZERO, body.function.term(found[2])) if found[2] else terms[0]
     return ("iter", whole, ZERO)
 
 
-def next_of_slice(body, found, terms, callee):
+def next_of_slice(body: Machine, found: re.Match[str], terms: Terms, callee: Term) -> Events:
     place = place_of(terms[0])
     state = body.memory.read(place)
     if state[0] != "iter":
@@ -74,7 +79,7 @@ def next_of_slice(body, found, terms, callee):
     return ("agg", 1, (pointer(root, at(inner, now)),))
 
 
-def next_of_range(body, found, terms, callee):
+def next_of_range(body: Machine, found: re.Match[str], terms: Terms, callee: Term) -> Events:
     place, integer = place_of(terms[0]), (found[1][0] == "i", width(found[1]))
     _, _, (first, end) = body.memory.read(place)
     if not (yield ("if", compared("Lt", *integer, first, end))):
@@ -87,7 +92,7 @@ def next_of_range(body, found, terms, callee):
 # ---- derived traits
 
 
-def and_eq(body, found, terms, callee):
+def and_eq(body: Machine, found: re.Match[str], terms: Terms, callee: Term) -> Events:
     if not (yield ("if", terms[0])):
         return FALSE
     kind = callee[2]["Fn"][1]["types"][0]
@@ -97,7 +102,7 @@ def and_eq(body, found, terms, callee):
     return (yield from body.called(("eq", *callee[1:]), terms[1:]))
 
 
-def or_cmp(body, found, terms, callee):
+def or_cmp(body: Machine, found: re.Match[str], terms: Terms, callee: Term) -> Events:
     """Goes on if an `Option` is `Some`, and an `Ordering` is `Equal`."""
     for it in (terms[0], *([project(terms[0], ("f", 1, 0))] if found[1] else [])):
         if not (yield ("if", compared("Eq", False, 8, tag(it), number(1, 8)))):
@@ -105,14 +110,14 @@ def or_cmp(body, found, terms, callee):
     return (yield from body.called((f"{found[1] or ''}cmp", *callee[1:]), terms[1:]))
 
 
-def derived_name(body, found, terms, callee):
+def derived_name(body: Machine, found: re.Match[str], terms: Terms, callee: Term) -> Events:
     word = text_of(terms[1][1][1][terms[2][1] :].split(b" ")[0])
     name = "core::fmt::formatter::Formatter::write_str"
     callee = "write_str", name, {"Fn": [name, callee[2]["Fn"][1]]}
     return (yield from body.called(callee, (terms[0], word)))
 
 
-def debug(body, found, terms, callee):
+def debug(body: Machine, found: re.Match[str], terms: Terms, callee: Term) -> Events:
     formatter, name, *rest = map(body.memory.seen, terms)
     labels, fields = (rest[::2], rest[1::2]) if found[1] == "struct" else ([None] * len(rest), rest)
     if found[2] == "s":
@@ -120,11 +125,11 @@ def debug(body, found, terms, callee):
         labels, fields = (it[1][2] if it[0] == "part" else it[2] for it in lists)
     words = [it[1][1].decode() if it else "" for it in (name, *labels)]
     text = " ".join([*words, ")" if found[1] == "tuple" else "}"])
-    fields = (shown("debug", *(it[1:] if it[0] == "dyn" else (None, it))) for it in fields)
+    fields = [shown("debug", *(it[1:] if it[0] == "dyn" else (None, it))) for it in fields]
     return (yield ("call", ("derived_fields", *callee[1:]), (formatter, text, *fields)))
 
 
-def derived_fields(body, found, terms, callee):
+def derived_fields(body: Machine, found: re.Match[str], terms: Terms, callee: Term) -> Events:
     formatter, before, text, *fields = map(body.memory.seen, terms)
     by, text = map(integer_of, callee[2]["Fn"][1]["dicts"][1:]), text[1][1].decode()
     fields = [shown("debug", *it) for it in zip(by, fields)]
@@ -138,49 +143,49 @@ def derived_fields(body, found, terms, callee):
 # ---- texts
 
 
-def shown(how, integer, term, *layout):
+def shown(how: str, integer: str | None, term: Term, *layout: Term) -> Term:
     """Returns a piece that is shown: an integer in decimal by its type, a reference as what it
     refers to."""
     how = f"{how} {integer}" if integer and how in ("display", "debug") else how
     return ("shown", how, referred(term), *layout)
 
 
-def integer_of(impl, trait="Debug"):
+def integer_of(impl: Any, trait: str = "Debug") -> str | None:
     """Returns the integer of which this is the impl of a trait, or of references to it."""
     text = json.dumps(impl)
     found = re.search(rf"::([UI]\d+|[UI]size){trait}", text)
     return found[1].lower() if found and "Slice" not in text else None
 
 
-def write(body, found, terms, callee):
+def write(body: Machine, found: re.Match[str], terms: Terms, callee: Term) -> Events:
     formatter, (_, some) = map(body.memory.seen, terms)
     some = (shown(it[1], None, *it[2:]) if it[0] == "shown" else it for it in some)
     return (yield ("call", callee, (formatter, ("pieces", *some))))
 
 
-def write_format(body, found, terms, callee):
+def write_format(body: Machine, found: re.Match[str], terms: Terms, callee: Term) -> Events:
     formatter, text = map(body.memory.seen, terms)
-    found, by = [], callee[2]["Fn"][1]["dicts"][1]["Impl"][2][0]["Impl"][2]
+    pieces, by = [], callee[2]["Fn"][1]["dicts"][1]["Impl"][2][0]["Impl"][2]
     for it, impl in zip(text[2][0][2], by):
         if it[0] == "agg" and it[2] and it[2][0][0] == "shown":
             it = shown(it[2][0][1], None, it[2][0][2], it[2][1])
         elif it[0] != "shown" and not (it[0] == "&" and it[1][0] == "static"):
             it = shown("display", integer_of(impl, "Display"), it)
-        found.append(it)
-    return (yield ("call", callee, (formatter, ("pieces", *found))))
+        pieces.append(it)
+    return (yield ("call", callee, (formatter, ("pieces", *pieces))))
 
 
-def in_radix(body, found, terms, callee):
+def in_radix(body: Machine, found: re.Match[str], terms: Terms, callee: Term) -> Term:
     names = {2: "binary", 8: "octal", 10: "display", 16: ("lower_hex", "upper_hex")[terms[2][1]]}
     return shown(names[terms[1][1]], None, terms[0])
 
 
-def texts(body, found, terms, callee):
+def texts(body: Machine, found: re.Match[str], terms: Terms, callee: Term) -> Term:
     """Reads what `format_args!` makes of a text: texts, and what is shown with its layout."""
     code, arguments = (body.memory.read(place_of(it)) for it in terms)
     data, some, place, n = code[1], [], 0, 0
 
-    def take(count):
+    def take(count: int) -> int:
         nonlocal place
         place += count
         return int.from_bytes(data[place - count : place], "little")
@@ -202,7 +207,7 @@ def texts(body, found, terms, callee):
     return ("pieces", tuple(some))
 
 
-def rows(*given):
+def rows(*given: tuple[str, str, Any]) -> list[tuple[re.Pattern[str], str, Any]]:
     return [(re.compile(pattern), reason, run) for pattern, reason, run in given]
 
 

@@ -2,21 +2,25 @@
 
 import itertools
 import re
+from collections.abc import Iterable, Iterator
 
-from rattle import kind_of, last, plain
+from rattle import Json, kind_of, last, plain
 from rust import split
-from terms import width
+from terms import Term, width
 
+Tree = Term
+Trees = list[Tree]
+Bound = dict[int, Tree]  # of what types the parameters are
+Aliases = dict[str, Tree]
 
 # What Rattle calls otherwise, beside what it holds.
 RENAMED = {"NoValue": "Infallible", "AllocFailed": "AllocError"}
 
 
-def parse(text, aliases):
+def parse(text: str, aliases: Aliases) -> Tree:
     """Returns a type of Rust: the last name of a path, and the types in it, without lifetimes."""
     text = re.sub(r"^(&?)'\w+ ", r"\1", text.strip())
-    reference = re.match(r"&(mut )?", text)
-    if reference:
+    if reference := re.match(r"&(mut )?", text):
         return ("&mut" if reference[1] else "&", parse(text[reference.end() :], aliases))
     if text[0] in "[(":
         parts = split(text[1:-1], ";" if text[0] == "[" else ",")
@@ -27,12 +31,12 @@ def parse(text, aliases):
     if text[0].isdigit():
         return (text.split("_")[0],)
     *_, name = (it.split("<")[0] for it in split(text, "::") if it[0] != "<")
-    given = split(text[text.index("<") + 1 : -1]) if text[-1] == ">" else ()
-    given = tuple(parse(it, aliases) for it in given if it[0] != "'")
+    inner = split(text[text.index("<") + 1 : -1]) if text[-1] == ">" else ()
+    given = tuple(parse(it, aliases) for it in inner if it[0] != "'")
     return (name, *given) if given else aliases.get(name, (name,))
 
 
-def form(of):
+def form(of: Json) -> Tree:
     """Returns a type of Rattle, whose integers have no signs, and whose parameters are numbers."""
     kind, it = kind_of(of)
     if kind in ("Ref", "Struct"):
@@ -48,7 +52,7 @@ def form(of):
     return {"Unit": ("(",), "Bool": ("bool",)}.get(kind) or (kind, it)
 
 
-def is_type(pattern, tree, bound, closures={}):
+def is_type(pattern: Tree, tree: Tree, bound: Bound, closures: dict[str, str] = {}) -> bool:
     """Returns whether a type of Rust is one of Rattle, with types for the parameters of that."""
     kind, name = pattern[0], tree[0]
     if kind == "Param":
@@ -65,26 +69,23 @@ def is_type(pattern, tree, bound, closures={}):
     if (kind, name) == ("[", "str"):
         return pattern[1] == ("Int", 8)
     # Rattle counts associated types too, after the parameters of a type.
-    is_one = name == RENAMED.get(kind, kind) and len(tree) <= len(pattern)
+    if name != RENAMED.get(kind, kind) or len(tree) > len(pattern):
+        return False
     is_whole = len(tree) == len(pattern) or name[0].isalpha()
-    return (
-        is_one
-        and is_whole
-        and all(is_type(a, b, bound, closures) for a, b in zip(pattern[1:], tree[1:]))
-    )
+    return is_whole and all(is_type(a, b, bound, closures) for a, b in zip(pattern[1:], tree[1:]))
 
 
-def unreferenced(tree):
+def unreferenced(tree: Tree) -> Tree:
     return unreferenced(tree[1]) if tree[0] == "&" else tree
 
 
-def joined(trees, aliases):
+def joined(trees: Iterable[Tree], aliases: Aliases) -> Iterator[tuple[str, Trees]]:
     """Yields what Rattle may call some types in one word, and what is no part of that."""
     for some in itertools.product(*(owners(it, aliases) for it in trees)):
         yield "".join(it for it, _ in some), [it for _, rest in some for it in rest]
 
 
-def owners(tree, aliases):
+def owners(tree: Tree, aliases: Aliases) -> list[tuple[str, Trees]]:
     """Returns what Rattle may call a type in the name of an `impl`, and what of it is no part of
     that name, the most special first."""
     kind, *inner = tree

@@ -12,6 +12,7 @@ import sys
 import tempfile
 import types
 import unittest
+from typing import Any
 
 ROOT = pathlib.Path(__file__).resolve().parents[2]
 sys.path.append(str(ROOT / "tools/mir"))
@@ -124,45 +125,37 @@ REFUSED = {"lent_in_a_loop", "slice_in_a_loop", "swapped_in_a_loop", "picked", "
 REFUSED |= {"number_of", "of_the_other", "of_unused_parameters", "of_one_of_both", "of_two_indices"}
 
 
-def differing(source):
+def differing(source: str) -> set[str]:
     """Returns the functions that differ in Rust."""
     with tempfile.TemporaryDirectory() as room:
         pathlib.Path(room, "attacks.rs").write_text(source)
         pathlib.Path(room, "lib.rs").write_text(ROOT_FILE)
-        rustc = [
-            "rustc",
-            "--edition=2024",
-            "--crate-type=lib",
-            "--cap-lints=allow",
-            *FLAGS,
-            "lib.rs",
-        ]
-        subprocess.run(rustc, cwd=room, check=True, env=os.environ | ENVIRONMENT)
+        rustc = "rustc --edition=2024 --crate-type=lib --cap-lints=allow".split()
+        subprocess.run(
+            [*rustc, *FLAGS, "lib.rs"], cwd=room, check=True, env=os.environ | ENVIRONMENT
+        )
         mir = as_in_library(pathlib.Path(room, "lib.mir").read_text())
     lines = {"attacks.rs": source.split("\n")}
     text = rust.Text(lines.values())
     text.read(mir, {"attacks"})
     proved = json.loads(lzma.decompress((FILES / "attacks.json.xz").read_bytes()))
-    sources = types.SimpleNamespace(
-        lines=lines,
-        crates={"attacks": "attacks"},
-        by_hand=(),
-        exports=dict,
-    )
+    crates = {"attacks": "attacks"}
+    sources: Any = types.SimpleNamespace(lines=lines, crates=crates, by_hand=(), exports=dict)
     names = Names(text, rattle.Library([proved]), sources)
     return {name.split("::")[-1] for name, fault in compare(names) if fault}
 
 
-def refusal(root):
+def refusal(root: pathlib.Path) -> str:
     """Returns why the declarations in a copy of the repository are not those of the source."""
     try:
-        return "\n".join(declared.faults(root, Sources(root)))
+        sources = Sources(root)
+        return "\n".join(declared.faults(root, sources.files, sources.lines))
     except ValueError as error:
         return str(error)
 
 
 class Mir(unittest.TestCase):
-    def test_declarations(self):
+    def test_declarations(self) -> None:
         with tempfile.TemporaryDirectory() as room:
             root = pathlib.Path(room)
             for name in ("src", "c/src", "variations/src"):
@@ -177,7 +170,7 @@ class Mir(unittest.TestCase):
                     self.assertIn(word, refusal(root))
                 (root / name).write_text(right)
 
-    def test_wrong_rust(self):
+    def test_wrong_rust(self) -> None:
         right = (FILES / "attacks.rs").read_text()
         wrong = right
         for name, old, new in ROWS:
