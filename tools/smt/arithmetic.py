@@ -1,7 +1,5 @@
 """Products and quotients of two unknown numbers, of which the solver knows a few true facts."""
 
-from __future__ import annotations
-
 import operator
 from collections.abc import Callable, Iterator
 from typing import NamedTuple

@@ -1,7 +1,5 @@
 """Compiles the package, with a wrapper for each function, to LLVM's IR and to a library."""
 
-from __future__ import annotations
-
 import shutil
 import subprocess
 from pathlib import Path

@@ -4,10 +4,6 @@ The parameters of a row are the unknown arguments. `?i32` is an `Option<i32>`, `
 bytes. A rule gives the result as a vector; that of a `relation` takes the result too, and says
 whether it is right."""
 
-# mypy: allow-untyped-calls
-
-from __future__ import annotations
-
 import re
 
 from collections.abc import Callable

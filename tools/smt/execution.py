@@ -3,8 +3,6 @@
 A path ends in one of three ways: it returns, it has undefined behavior, or it panics. `Goals` has
 to refute each condition under which it does one of the last two."""
 
-from __future__ import annotations
-
 import re
 from collections.abc import Iterator, Sequence
 from contextlib import suppress

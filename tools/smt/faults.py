@@ -1,7 +1,5 @@
 """The mutants of `crates/*/must-fail` as wrong Rust: each is refused, or changes no function."""
 
-from __future__ import annotations
-
 import ctypes
 import re
 import shutil

@@ -1,7 +1,5 @@
 """Arguments of a case, for the reader, for its rule and for the compiled library."""
 
-from __future__ import annotations
-
 import ctypes
 import random
 from collections.abc import Callable

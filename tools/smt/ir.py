@@ -1,7 +1,5 @@
 """The text of LLVM's IR, split into functions, blocks and instructions."""
 
-from __future__ import annotations
-
 import re
 from collections.abc import Iterator
 from typing import NamedTuple

@@ -1,7 +1,5 @@
 """A loop that adds up terms: an invariant instead of turns, so that there may be any number."""
 
-from __future__ import annotations
-
 import re
 
 import z3

@@ -1,7 +1,5 @@
 """Objects in memory, and loads and stores. Each load reads what was stored, or is poison."""
 
-from __future__ import annotations
-
 import re
 from functools import cache
 from collections.abc import Callable

@@ -1,7 +1,5 @@
 """The proof of one function: for every argument, the result is right and nothing is undefined."""
 
-from __future__ import annotations
-
 import ctypes
 import random
 import re

@@ -4,8 +4,6 @@ has to agree with this page and with `cases.py`.
 A number is a vector of W bits, which is read as a signed integer. No sum or product below reaches
 2^(W-1), so that this is arithmetic of integers. A division by 2^k is a shift: `>>` rounds down."""
 
-from __future__ import annotations
-
 from collections.abc import Callable, Iterator, Sequence
 from typing import NamedTuple
 

@@ -1,7 +1,5 @@
 """The decimals that the formats of 16 bits print: all 2^16 values of each, by the processor."""
 
-from __future__ import annotations
-
 import ctypes
 
 FRACTION_BITS = {"F2Dot14": 14, "F4Dot12": 12, "F6Dot10": 10}

@@ -1,7 +1,5 @@
 """Values of LLVM's IR: numbers and addresses, each with the condition under which it is poison."""
 
-from __future__ import annotations
-
 from typing import NamedTuple, Union
 
 import z3
