@@ -11,7 +11,7 @@ extern crate font_types_proved as font_tags;
 extern crate font_types_proved as font_types;
 
 #[macro_use]
-mod rattle;
+mod std_for_tests;
 
 #[path = "generated/rows/mod.rs"]
 mod rows;

@@ -122,7 +122,12 @@ class Eraser:
     """A file. Places in it are counted in words."""
 
     def __init__(
-        self, text: str, of: Crate, is_root: bool, known: dict[str, str] | None = None, path: str = ""
+        self,
+        text: str,
+        of: Crate,
+        is_root: bool,
+        known: dict[str, str] | None = None,
+        path: str = "",
     ) -> None:
         self.tokens, self.of, self.is_root, self.file = tokens(text), of, is_root, path
         self.places = [n for n, token in enumerate(self.tokens) if token.kind == "code"]
@@ -201,7 +206,7 @@ class Eraser:
         elif name == "std" and target == "program" and after in ("alloc", "env", "io"):
             self.replace(at, "crate::host")
         elif name == "std" and target != "program":
-            self.replace(at, "crate::rattle" if target == "tests" else "core")
+            self.replace(at, "crate::std_for_tests" if target == "tests" else "core")
         elif name == "font_types" and target in ("program", "variations"):
             self.replace(at, "font_types_proved")
         elif name in (*LIBRARY, "font_lines"):
@@ -293,7 +298,7 @@ class Eraser:
                 self.put(at, "const ")
         match self.words[at + 2 : at + 11]:
             case ["(", rt, ":", "HostRuntime", ")", *_] if target == "tests":
-                self.put_after(self.header, f"let {rt} = crate::rattle::Host;")
+                self.put_after(self.header, f"let {rt} = crate::std_for_tests::Host;")
                 return self.leave_out(at + 3, at + 6)
             case ["<", "W", ":", "fmt", "::", "Write", ">", *_]:
                 self.writers.append(range(at + 9, self.group_end(self.header)))

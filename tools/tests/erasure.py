@@ -128,8 +128,8 @@ fontval fn main() { 0..std::io::N } ⇒ pub fn main() { 0..crate::host::io::N }
 fontval fn f(n: &font_types::N) {} ⇒ fn f(n: &font_types_proved::N) {}
 variations fn f(n: &font_types::N) {} ⇒ fn f(n: &font_types_proved::N) {}
 variations /// Two.⏎fn f() ensures { T } {} ⇒ /// Two.⏎///⏎FOLD/// ensures { T }⏎END⏎fn f()  {}
-font_ids fn f(rt: HostRuntime) { 0..1 } ⇒ fn f() {let rt = crate::rattle::Host; 0..1 }
-font_ids use std::test::Fail; n.clone()?; ⇒ use crate::rattle::test::Fail; n.clone();
+font_ids fn f(rt: HostRuntime) { 0..1 } ⇒ fn f() {let rt = crate::std_for_tests::Host; 0..1 }
+font_ids use std::test::Fail; n.clone()?; ⇒ use crate::std_for_tests::test::Fail; n.clone();
 font_ids x.repeat(rt.alloc(), n)?; crate::N ⇒ x.repeat( n); crate::font_ids::N
 """
 

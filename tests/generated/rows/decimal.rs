@@ -3,12 +3,12 @@
 //! What no clause says: the texts and the numbers of the errors, and which types are `Copy`.
 
 use crate::font_decimal::{Align, DecimalFault, Pad, Shortest};
-use crate::rattle::fmt::{Debug, Display};
-use crate::rattle::test::Fail;
+use crate::std_for_tests::fmt::{Debug, Display};
+use crate::std_for_tests::test::Fail;
 
 #[test]
 fn error_texts_and_discriminants() -> Result<(), Fail> {
-    let rt = crate::rattle::Host;
+    let rt = crate::std_for_tests::Host;
     let (syntax, range) = (DecimalFault::Syntax, DecimalFault::OutOfRange);
     let text = format!(in rt.alloc(); "{syntax} {syntax:?}, {range} {range:?}")?;
     assert!(rt; text.as_str() == "not a decimal number Syntax, number out of range OutOfRange");
@@ -23,7 +23,7 @@ fn is_copy<T: Copy>() {}
 
 #[test]
 fn traits() -> Result<(), Fail> {
-    let rt = crate::rattle::Host;
+    let rt = crate::std_for_tests::Host;
     is_error::<DecimalFault>();
     is_copy::<Shortest>();
     is_copy::<Pad>();

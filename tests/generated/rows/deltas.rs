@@ -8,7 +8,7 @@ use crate::font_types::{
     CFF_SFNT_VERSION, DeltaSum, F2Dot14, F48Dot16, FWord, Fixed, TRUE_SFNT_VERSION,
     TT_SFNT_VERSION, UfWord, checked_delta_sum, delta_sum, vary,
 };
-use crate::rattle::test::Fail;
+use crate::std_for_tests::test::Fail;
 
 /// Two products whose sum does not fit in 64 bits, and one that brings it back.
 const LEAST: (Fixed, i32) = (Fixed::MIN, i32::MIN);
@@ -21,7 +21,7 @@ fn quarters() -> [(Fixed, i32); 3] {
 
 #[test]
 fn sums_that_print() -> Result<(), Fail> {
-    let rt = crate::rattle::Host;
+    let rt = crate::std_for_tests::Host;
     for &(terms, bits, text) in &[
         (quarters(), -1032192, "-15.75"),
         ([LEAST; 3], -0x4000_0000_0000_0000, "-70368744177664"),
@@ -48,7 +48,7 @@ fn sums_that_print() -> Result<(), Fail> {
 
 #[test]
 fn sums_in_parts() {
-    let rt = crate::rattle::Host;
+    let rt = crate::std_for_tests::Host;
     for &(terms, bits) in &[(quarters(), -1032192), ([LEAST, LEAST, BACK], 4611686020574871552)] {
         let [first, second, third] = terms;
         let (whole, parts) = sum_in_parts(&[first], &[second, third]);
@@ -64,7 +64,7 @@ fn sums_in_parts() {
 // The terms are checked together: the first two do not fit without the third.
 #[test]
 fn checked_sums() {
-    let rt = crate::rattle::Host;
+    let rt = crate::std_for_tests::Host;
     let right = F48Dot16::from_bits(4611686020574871552);
     assert!(rt; checked_delta_sum(&[LEAST; 3]).is_none());
     assert!(rt; checked_delta_sum(&[LEAST; 2]).is_none());
@@ -76,7 +76,7 @@ fn checked_sums() {
 
 #[test]
 fn moved_16_16_and_2_14() {
-    let rt = crate::rattle::Host;
+    let rt = crate::std_for_tests::Host;
     for &(delta, fixed, short) in &[
         (0, 6442450944, 268435456),
         (1, 6442450945, 268435457),
@@ -105,7 +105,7 @@ fn moved_16_16_and_2_14() {
 
 #[test]
 fn moved_font_units() {
-    let rt = crate::rattle::Host;
+    let rt = crate::std_for_tests::Host;
     for &(base, delta, moved) in &[(100, 163840, 6717440), (-100, -16384, -6569984)] {
         let found = FWord::new(base).apply_delta(F48Dot16::from_bits(delta));
         assert!(rt; found == moved, "{base}");
@@ -118,7 +118,7 @@ fn moved_font_units() {
 
 #[test]
 fn versions_of_font_files() {
-    let rt = crate::rattle::Host;
+    let rt = crate::std_for_tests::Host;
     let versions = [TT_SFNT_VERSION, TRUE_SFNT_VERSION, CFF_SFNT_VERSION];
     assert!(rt; versions == [0x0001_0000, 0x7472_7565, 0x4F54_544F]);
 }

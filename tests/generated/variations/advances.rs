@@ -25,7 +25,7 @@ fn with(number: u32, offset: usize) -> [u8; 62] {
 
 #[test]
 fn sets_of_glyphs() {
-    let rt = crate::rattle::Host;
+    let rt = crate::std_for_tests::Host;
     for &(glyph, outer, inner) in &[(0, 0, 1), (1, 0, 0), (2, 0, 0), (0xFFFF, 0, 0)] {
         let set = DeltaSetIndex { outer, inner };
         let found = store_and_set(&HVAR, GlyphId16::new(glyph));
@@ -54,7 +54,7 @@ fn sets_of_glyphs() {
 
 #[test]
 fn advances_by_sets() {
-    let rt = crate::rattle::Host;
+    let rt = crate::std_for_tests::Host;
     let (store, advance) = (&HVAR[28..], UfWord::new(500));
     let coordinates = [F2Dot14::from_bits(0x2000)];
     for &(outer, inner, varied) in &[

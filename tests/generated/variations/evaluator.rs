@@ -3,7 +3,7 @@
 //! An evaluator of variations: what `tests/examples.rs` does not see.
 
 use crate::font_types::{F2Dot14, Fixed, NameId, Tag};
-use crate::rattle::test::Fail;
+use crate::std_for_tests::test::Fail;
 use crate::variations::evaluator::{
     VariationAxisRecord, final_coordinate, map_coordinate, normalize, read_axis, segment_map,
     to_stored,
@@ -11,7 +11,7 @@ use crate::variations::evaluator::{
 
 #[test]
 fn axis_records() -> Result<(), Fail> {
-    let rt = crate::rattle::Host;
+    let rt = crate::std_for_tests::Host;
     let bytes = *b"wght\x00\x64\x00\x00\x01\x90\x00\x00\x03\x84\x00\x00\x00\x01\x01\x00\x07";
     let axis = read_axis(&bytes).ok_or("20 bytes")?;
     assert!(rt; axis.axis_tag == Tag::new(b"wght") && axis.min_value == Fixed::from_i32(100));
@@ -23,7 +23,7 @@ fn axis_records() -> Result<(), Fail> {
 
 #[test]
 fn coordinates_stored() {
-    let rt = crate::rattle::Host;
+    let rt = crate::std_for_tests::Host;
     for &(bits, stored) in &[
         (0x2_0000, 0x4000),
         (-0x1_0001, -0x4000),
@@ -40,7 +40,7 @@ fn coordinates_stored() {
 
 #[test]
 fn coordinates_normalized() {
-    let rt = crate::rattle::Host;
+    let rt = crate::std_for_tests::Host;
     for &(min, default, max, value, bits) in &[
         (100, 400, 900, 650, Some(0x8000)),
         (100, 400, 900, 300, Some(-0x5555)),
@@ -77,7 +77,7 @@ const MAP: [u8; 16] = [0xC0, 0, 0xC0, 0, 0, 0, 0, 0, 0x20, 0, 0x10, 0, 0x40, 0, 
 
 #[test]
 fn coordinates_mapped() {
-    let rt = crate::rattle::Host;
+    let rt = crate::std_for_tests::Host;
     for &(bits, mapped) in &[
         (-0x1_0001, -0x1_0001),
         (-0x1_0000, -0x1_0000),
@@ -118,7 +118,7 @@ const AVAR: [u8; 26] =
 
 #[test]
 fn segment_maps() {
-    let rt = crate::rattle::Host;
+    let rt = crate::std_for_tests::Host;
     for &(axis, first, end) in &[(0, 10, 14), (1, 16, 16), (2, 18, 26)] {
         let map = segment_map(&AVAR, axis);
         assert!(rt; map == Some(&AVAR[first..end]), "{axis}");

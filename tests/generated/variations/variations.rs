@@ -9,7 +9,7 @@ use crate::variations::regions::{RegionAxisCoordinates, axis_scalar, region_scal
 
 #[test]
 fn scalars_of_axes() {
-    let rt = crate::rattle::Host;
+    let rt = crate::std_for_tests::Host;
     for &(start, peak, end, coordinate, bits) in &[
         // Ignored: out of order, on both sides of zero, or with the peak at zero.
         (3, 2, 4, 0, 65536),
@@ -52,7 +52,7 @@ const NEAR_THE_PEAKS: [u8; 16] =
 // 65536 * 12788/12854 * 9513/9584 is 64716.49: the scalar is off by 1.49, of at most 1.5.
 #[test]
 fn scalar_of_two_axes_near_its_bound() {
-    let rt = crate::rattle::Host;
+    let rt = crate::std_for_tests::Host;
     let coordinates = [12788, 9513].map(F2Dot14::from_bits);
     let scalar = region_scalar(&NEAR_THE_PEAKS, 0, &coordinates);
     assert!(rt; scalar == Some(Fixed::from_bits(64715)));
@@ -64,7 +64,7 @@ const REGIONS: [u8; 28] =
 
 #[test]
 fn scalars_of_regions() {
-    let rt = crate::rattle::Host;
+    let rt = crate::std_for_tests::Host;
     let [one, two] = [1, 2].map(F2Dot14::from_bits);
     for &(region, coordinates, bits) in &[
         (0, &[two, two][..], Some(29128)),
@@ -102,13 +102,13 @@ const WIDE: [u8; 16] = [0, 1, 0, 2, 0, 1, 0, 0, 0, 1, 0, 2, 0, 3, 0, 4];
 
 #[test]
 fn more_wide_columns_than_columns() {
-    let rt = crate::rattle::Host;
+    let rt = crate::std_for_tests::Host;
     assert!(rt; read_delta(&WIDE, 0, 0).is_none());
 }
 
 #[test]
 fn maps_to_delta_sets() {
-    let rt = crate::rattle::Host;
+    let rt = crate::std_for_tests::Host;
     for &(outer, inner, is_none) in &[
         (0xFFFF, 0xFFFF, true),
         (0xFFFF, 0xFFFE, false),

@@ -6,11 +6,11 @@
 use crate::font_base::{
     BeByteArray, BigEndian, Int24, SampleHeader, ScalarArray, TableDataRef, TableHeader,
 };
-use crate::rattle::test::Fail;
+use crate::std_for_tests::test::Fail;
 
 #[test]
 fn field_order() {
-    let rt = crate::rattle::Host;
+    let rt = crate::std_for_tests::Host;
     let below = BigEndian::<i16>::new([0xFF, 0xFF]);
     let above = BigEndian::<i16>::new([0x00, 0x01]);
     assert!(rt; below < above && below.get() == -1 && below.eq_value(&-1));
@@ -36,7 +36,7 @@ impl BeByteArray for Pair {
 
 #[test]
 fn eq_array() {
-    let rt = crate::rattle::Host;
+    let rt = crate::std_for_tests::Host;
     for &(other, equal) in &[([1, 2], true), ([0, 2], false), ([1, 0], false)] {
         let own = Pair([1, 2]).eq_array(&Pair(other));
         assert!(rt;
@@ -49,7 +49,7 @@ fn eq_array() {
 
 #[test]
 fn field_text() -> Result<(), Fail> {
-    let rt = crate::rattle::Host;
+    let rt = crate::std_for_tests::Host;
     let field = BigEndian::<Int24>::new([0xFF, 0xFF, 0xFB]);
     let text = format!(in rt.alloc(); "{field} {field:?}")?;
     assert!(rt; text.as_str() == "-5 Int24(-5)");
@@ -65,7 +65,7 @@ fn field_text() -> Result<(), Fail> {
 
 #[test]
 fn header_and_data() -> Result<(), Fail> {
-    let rt = crate::rattle::Host;
+    let rt = crate::std_for_tests::Host;
     let bytes = [0x00, 0x01, 0x00, 0x00, 0x00, 0x02, 0xFF];
     let table = TableDataRef::<SampleHeader>::new(&bytes).ok_or("long enough")?;
     let header = table.clone().header();
@@ -76,7 +76,7 @@ fn header_and_data() -> Result<(), Fail> {
 
 #[test]
 fn header_of_a_subslice() -> Result<(), Fail> {
-    let rt = crate::rattle::Host;
+    let rt = crate::std_for_tests::Host;
     let bytes = [0xFF, 0x00, 0x03, 0x00, 0x00, 0x00, 0x04];
     let header = TableDataRef::<SampleHeader>::new(&bytes[1..]).ok_or("long enough")?.header();
     assert!(rt; header.a.get() == 3 && header.b.get() == 4);
@@ -85,7 +85,7 @@ fn header_of_a_subslice() -> Result<(), Fail> {
 
 #[test]
 fn header_requires_its_length() {
-    let rt = crate::rattle::Host;
+    let rt = crate::std_for_tests::Host;
     let bytes = [0x00, 0x01, 0x00, 0x00, 0x00, 0x02];
     assert!(rt; TableDataRef::<SampleHeader>::new(&bytes[..5]).is_none());
     assert!(rt; TableDataRef::<SampleHeader>::new(&bytes).is_some());
@@ -104,7 +104,7 @@ impl TableHeader for EmptyHeader {
 
 #[test]
 fn header_of_no_bytes() -> Result<(), Fail> {
-    let rt = crate::rattle::Host;
+    let rt = crate::std_for_tests::Host;
     let table = TableDataRef::<EmptyHeader>::new(&[]).ok_or("long enough")?;
     let EmptyHeader = table.header();
     let longer = TableDataRef::<EmptyHeader>::new(&[7]).ok_or("long enough")?;

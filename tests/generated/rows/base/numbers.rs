@@ -4,11 +4,11 @@
 //! clause says: texts with flags, and of the error.
 
 use crate::font_base::{BeByteArray, Int24, Scalar, Uint24};
-use crate::rattle::test::Fail;
+use crate::std_for_tests::test::Fail;
 
 #[test]
 fn int24_bytes() {
-    let rt = crate::rattle::Host;
+    let rt = crate::std_for_tests::Host;
     for &(number, bytes) in &[
         (0, [0x00, 0x00, 0x00]),
         (123456, [0x01, 0xE2, 0x40]),
@@ -26,7 +26,7 @@ fn int24_bytes() {
 
 #[test]
 fn uint24_bytes() {
-    let rt = crate::rattle::Host;
+    let rt = crate::std_for_tests::Host;
     for &(number, bytes) in
         &[(16755404, [0xFF, 0xAA, 0xCC]), (16777215, [0xFF, 0xFF, 0xFF]), (0, [0x00, 0x00, 0x00])]
     {
@@ -40,7 +40,7 @@ fn uint24_bytes() {
 
 #[test]
 fn int24_range() {
-    let rt = crate::rattle::Host;
+    let rt = crate::std_for_tests::Host;
     let ends = [8388608, 8388607, -8388608, -8388609];
     let (least, greatest) = (Some(Int24::MIN), Some(Int24::MAX));
     assert!(rt; ends.map(Int24::checked_new) == [None, greatest, least, None]);
@@ -50,7 +50,7 @@ fn int24_range() {
 
 #[test]
 fn uint24_range() {
-    let rt = crate::rattle::Host;
+    let rt = crate::std_for_tests::Host;
     let ends = [16777216, 16777215, 0];
     assert!(rt; ends.map(Uint24::checked_new) == [None, Some(Uint24::MAX), Some(Uint24::MIN)]);
     assert!(rt; Uint24::new(16777216) == Uint24::MAX && Uint24::try_from(16777216usize).is_err());
@@ -58,7 +58,7 @@ fn uint24_range() {
 
 #[test]
 fn text_of_24_bit_integers() -> Result<(), Fail> {
-    let rt = crate::rattle::Host;
+    let rt = crate::std_for_tests::Host;
     for &(number, unsigned, text) in &[
         (0, 0, "0 Uint24(0), 0 Int24(0)"),
         (-5, 5, "5 Uint24(5), -5 Int24(-5)"),
@@ -76,7 +76,7 @@ fn text_of_24_bit_integers() -> Result<(), Fail> {
 // The flags of a format go to the number inside, as in the original crate.
 #[test]
 fn text_with_flags() -> Result<(), Fail> {
-    let rt = crate::rattle::Host;
+    let rt = crate::std_for_tests::Host;
     let (number, negative) = (Uint24::new(5), Int24::new(-5));
     let text = format!(in rt.alloc(); "{number:4}|{number:<3}|{negative:04}")?;
     assert!(rt; text.as_str() == "   5|5  |-005");
@@ -85,7 +85,7 @@ fn text_with_flags() -> Result<(), Fail> {
 
 #[test]
 fn conversion_error() -> Result<(), Fail> {
-    let rt = crate::rattle::Host;
+    let rt = crate::std_for_tests::Host;
     let fault = Uint24::try_from(16777216usize).err().ok_or("refused")?;
     let text = format!(in rt.alloc(); "{fault} {fault:?}")?;
     assert!(rt; text.as_str() == "failed to convert usize value into Uint24. TryFromUint24Error");
@@ -96,7 +96,7 @@ const BYTES: [u8; 9] = [0xFF, 0xFE, 0xFD, 0xFC, 0xFB, 0xFA, 0xF9, 0xF8, 0xF7];
 
 #[test]
 fn scalar_read() {
-    let rt = crate::rattle::Host;
+    let rt = crate::std_for_tests::Host;
     assert!(rt; u8::read(&BYTES[..1]) == Some(255) && i8::read(&BYTES[..1]) == Some(-1));
     assert!(rt; u16::read(&BYTES[..2]) == Some(65534) && i16::read(&BYTES[..2]) == Some(-2));
     assert!(rt; Uint24::read(&BYTES[..3]) == Some(Uint24::new(16776957)));
@@ -108,7 +108,7 @@ fn scalar_read() {
 
 #[test]
 fn read_requires_the_exact_length() {
-    let rt = crate::rattle::Host;
+    let rt = crate::std_for_tests::Host;
     assert!(rt; u16::read(&BYTES[..1]).is_none() && u16::read(&BYTES[..3]).is_none());
     assert!(rt; <[u8; 4]>::from_slice(&BYTES).is_none());
     assert!(rt; BeByteArray::as_slice(&(-283686952306184i64).to_raw()) == &BYTES[..8]);

@@ -6,8 +6,8 @@ use crate::font_base::{
     BigEndian, FixedSize, IdentityEq, Int24, SampleHeader, Scalar, ScalarArray, TableDataRef,
     Uint24,
 };
-use crate::rattle::fmt::{Debug, Display};
-use crate::rattle::hash::Hash;
+use crate::std_for_tests::fmt::{Debug, Display};
+use crate::std_for_tests::hash::Hash;
 
 fn is_integer<T: Copy + Ord + Hash + Default + Display + Debug + Scalar + IdentityEq>() {}
 
@@ -19,7 +19,7 @@ fn is_array<T: Copy + Default + Eq>() {}
 
 #[test]
 fn traits() {
-    let _rt = crate::rattle::Host;
+    let _rt = crate::std_for_tests::Host;
     is_integer::<Uint24>();
     is_integer::<Int24>();
     is_field::<BigEndian<u16>>();

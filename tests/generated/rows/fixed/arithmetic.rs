@@ -20,7 +20,7 @@ macro_rules! check_constants {
 
 #[test]
 fn constants() {
-    let rt = crate::rattle::Host;
+    let rt = crate::std_for_tests::Host;
     check_constants!(rt, F2Dot14, i16, 0x4000);
     check_constants!(rt, F4Dot12, i16, 0x1000);
     check_constants!(rt, F6Dot10, i16, 0x400);
@@ -32,7 +32,7 @@ fn constants() {
 
 #[test]
 fn sums_at_the_limits() {
-    let rt = crate::rattle::Host;
+    let rt = crate::std_for_tests::Host;
     let (max, step) = (Fixed::MAX, Fixed::EPSILON);
     assert!(rt; [max.saturating_add(step), max + step] == [max, Fixed::MIN]);
     assert!(rt; max.checked_add(step).is_none() && max.wrapping_add(step) == Fixed::MIN);
@@ -44,7 +44,7 @@ fn sums_at_the_limits() {
 
 #[test]
 fn products_of_16_16() {
-    let rt = crate::rattle::Host;
+    let rt = crate::std_for_tests::Host;
     for &(x, y, product) in &[
         (-1, 0x8000, -1),
         (1, 0x8000, 1),
@@ -63,14 +63,14 @@ fn products_of_16_16() {
 
 #[test]
 fn products_of_16_16_do_not_associate() {
-    let rt = crate::rattle::Host;
+    let rt = crate::std_for_tests::Host;
     let (step, half) = (Fixed::EPSILON, Fixed::from_bits(0x8000));
     assert!(rt; step * half * half == step && step * (half * half) == Fixed::ZERO);
 }
 
 #[test]
 fn quotients_of_16_16() {
-    let rt = crate::rattle::Host;
+    let rt = crate::std_for_tests::Host;
     for &(x, y, quotient) in &[
         (i32::MIN, -1, 0),
         (0, 0, i32::MAX),
@@ -90,7 +90,7 @@ fn quotients_of_16_16() {
 
 #[test]
 fn products_over_quotients_of_16_16() {
-    let rt = crate::rattle::Host;
+    let rt = crate::std_for_tests::Host;
     let by_zero = Fixed::ZERO.mul_div(Fixed::NEG_ONE, Fixed::ZERO);
     let of_max = Fixed::MAX.mul_div(Fixed::MAX, Fixed::EPSILON);
     let of_min = Fixed::MIN.mul_div(Fixed::MIN, Fixed::from_bits(-1));
@@ -99,7 +99,7 @@ fn products_over_quotients_of_16_16() {
 
 #[test]
 fn products_and_quotients_of_26_6() {
-    let rt = crate::rattle::Host;
+    let rt = crate::std_for_tests::Host;
     for &(x, y, product, quotient) in &[
         (32, -154, -77, -13),
         (1, 32, 1, 2),
@@ -129,7 +129,7 @@ fn products_and_quotients_of_26_6() {
 
 #[test]
 fn rounding_of_16_bits() {
-    let rt = crate::rattle::Host;
+    let rt = crate::std_for_tests::Host;
     for &(bits, round, floor, fract) in &[
         (0x7000, -0x8000, 0x4000, 0x3000),
         (0x1F00, 0, 0, 0x1F00),
@@ -151,7 +151,7 @@ fn rounding_of_16_bits() {
 
 #[test]
 fn rounding_of_32_bits() {
-    let rt = crate::rattle::Host;
+    let rt = crate::std_for_tests::Host;
     for &(bits, round, floor, fract) in &[
         (0x1_7FFE, 0x1_0000, 0x1_0000, 0x7FFE),
         (0x1_7FFF, 0x1_0000, 0x1_0000, 0x7FFF),
@@ -175,7 +175,7 @@ fn rounding_of_32_bits() {
 
 #[test]
 fn rounding_of_64_bits() {
-    let rt = crate::rattle::Host;
+    let rt = crate::std_for_tests::Host;
     for &(bits, round, floor, fract) in &[
         (0x1_7FFF, 0x1_0000, 0x1_0000, 0x7FFF),
         (0x1_8000, 0x2_0000, 0x1_0000, 0x8000),
@@ -191,7 +191,7 @@ fn rounding_of_64_bits() {
 
 #[test]
 fn bytes() {
-    let rt = crate::rattle::Host;
+    let rt = crate::std_for_tests::Host;
     let (number, narrow) = (Fixed::from_bits(-0x1_8000), F2Dot14::from_bits(-10139));
     assert!(rt; number.to_be_bytes() == [0xFF, 0xFE, 0x80, 0x00]);
     assert!(rt; Fixed::read(&number.to_raw()) == Some(number));
@@ -209,7 +209,7 @@ fn bytes() {
 
 #[test]
 fn order_and_bounds() {
-    let rt = crate::rattle::Host;
+    let rt = crate::std_for_tests::Host;
     for &(x, y, a, c, right) in &[
         (3, 5, 1, 2, [2, 3]),
         (-5, -3, 1, 2, [-3, -2]),

@@ -6,7 +6,7 @@ use crate::font_fixed::*;
 
 #[test]
 fn narrowed_16_16() {
-    let rt = crate::rattle::Host;
+    let rt = crate::std_for_tests::Host;
     for &(bits, whole, f26dot6, f2dot14) in &[
         (i32::MAX, -32768, -2097152, 0),
         (262144, 4, 256, 0),
@@ -38,7 +38,7 @@ fn narrowed_16_16() {
 
 #[test]
 fn narrowed_48_16() {
-    let rt = crate::rattle::Host;
+    let rt = crate::std_for_tests::Host;
     for &(bits, wide, narrow, fixed) in &[
         (-0x1_8000, -1, -1, -0x1_8000),
         (-0x1_8001, -2, -2, -0x1_8001),
@@ -58,7 +58,7 @@ fn narrowed_48_16() {
 
 #[test]
 fn narrowed_26_6() {
-    let rt = crate::rattle::Host;
+    let rt = crate::std_for_tests::Host;
     for &(bits, whole) in
         &[(64, 1), (96, 2), (-96, -1), (95, 1), (31, 0), (-97, -2), (i32::MAX, -33554432)]
     {
@@ -68,7 +68,7 @@ fn narrowed_26_6() {
 
 #[test]
 fn widened() {
-    let rt = crate::rattle::Host;
+    let rt = crate::std_for_tests::Host;
     let half = F2Dot14::from_bits(-0x2000);
     assert!(rt; [half.to_fixed(), Fixed::from(half)] == [Fixed::from_bits(-0x8000); 2]);
     assert!(rt;
@@ -83,7 +83,7 @@ fn widened() {
 
 #[test]
 fn from_others() {
-    let rt = crate::rattle::Host;
+    let rt = crate::std_for_tests::Host;
     assert!(rt; [Fixed::from_i32(-1), Fixed::from(-1)] == [Fixed::NEG_ONE; 2]);
     assert!(rt; Fixed::from_i32(1000).to_bits() == 1000 << 16);
     assert!(rt;

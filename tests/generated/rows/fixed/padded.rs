@@ -24,7 +24,7 @@ macro_rules! check_padded {
 
 #[test]
 fn padded_2_14() {
-    let rt = crate::rattle::Host;
+    let rt = crate::std_for_tests::Host;
     let rows = &[
         (9830, 8, b'*', Center, false, false, "**0.6***~", 8),
         (9830, 9, b'*', Center, false, false, "***0.6***", 9),
@@ -46,7 +46,7 @@ fn padded_2_14() {
 
 #[test]
 fn padded_6_10() {
-    let rt = crate::rattle::Host;
+    let rt = crate::std_for_tests::Host;
     let rows = &[
         (-614, 0, b' ', Right, false, false, "-0.6~~", 4),
         (0x7C40, 0, b' ', Right, true, false, "+31.0625", 8),

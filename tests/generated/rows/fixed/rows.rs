@@ -4,9 +4,9 @@
 
 use crate::font_decimal::DecimalFault;
 use crate::font_fixed::*;
-use crate::rattle::alloc::{AllocError, Global};
-use crate::rattle::fmt::Display;
-use crate::rattle::test::Fail;
+use crate::std_for_tests::alloc::{AllocError, Global};
+use crate::std_for_tests::fmt::Display;
+use crate::std_for_tests::test::Fail;
 
 /// Returns whether a number prints as `text`.
 fn prints(alloc: Global, number: impl Copy + Display, text: &str) -> Result<bool, AllocError> {
@@ -43,7 +43,7 @@ fn parsed(format: &str, text: &str) -> Result<i64, DecimalFault> {
 // The shortest decimal that parses back to a raw value; of two as near, the one farther from zero.
 #[test]
 fn printed_decimals() -> Result<(), Fail> {
-    let rt = crate::rattle::Host;
+    let rt = crate::std_for_tests::Host;
     for &(format, bits, text) in &[
         ("F2Dot14", 1, "0.00006"),
         ("F2Dot14", -32768, "-2"),
@@ -119,7 +119,7 @@ fn printed_decimals() -> Result<(), Fail> {
 
 #[test]
 fn parsed_decimals() {
-    let rt = crate::rattle::Host;
+    let rt = crate::std_for_tests::Host;
     for &(format, text, bits) in &[
         ("F2Dot14", "1.99996", 32767),
         ("F2Dot14", "-2.00003", -32768),
@@ -172,7 +172,7 @@ fn parsed_decimals() {
 
 #[test]
 fn decimals_out_of_range() {
-    let rt = crate::rattle::Host;
+    let rt = crate::std_for_tests::Host;
     for &(format, text) in &[
         ("F2Dot14", "1.99997"),
         ("F2Dot14", "-2.00004"),
@@ -197,7 +197,7 @@ fn decimals_out_of_range() {
 
 #[test]
 fn no_decimals() {
-    let rt = crate::rattle::Host;
+    let rt = crate::std_for_tests::Host;
     for &text in &["", "-", ".5", "5.", "+1", "1e3", "1.2.3", " 1", "1 "] {
         for &format in &["F2Dot14", "F4Dot12", "F6Dot10", "Fixed", "F26Dot6", "F2Dot30", "F48Dot16"]
         {
@@ -210,7 +210,7 @@ fn no_decimals() {
 // A text in three parts, of which the second is repeated.
 #[test]
 fn thousands_of_digits() -> Result<(), Fail> {
-    let rt = crate::rattle::Host;
+    let rt = crate::std_for_tests::Host;
     for &(format, head, digit, count, tail, ref bits) in &[
         ("Fixed", "", "0", 5000, "12.5", Ok(819200)),
         ("Fixed", "0.", "0", 5000, "1", Ok(0)),
@@ -248,7 +248,7 @@ macro_rules! check_products {
 
 #[test]
 fn products_and_quotients_of_decimals() {
-    let rt = crate::rattle::Host;
+    let rt = crate::std_for_tests::Host;
     let rows = &[("0.5", "2", "1", "0.25"), ("0.5", "0.5", "0.25", "1")];
     check_products!(rt, Fixed, rows);
     let rows = &[
@@ -263,7 +263,7 @@ fn products_and_quotients_of_decimals() {
 // A decimal of 48.16, and its integer as an `i64`.
 #[test]
 fn integers_of_decimals() {
-    let rt = crate::rattle::Host;
+    let rt = crate::std_for_tests::Host;
     for &(text, integer) in
         &[("1", 1), ("1.5", 2), ("-1.5", -1), ("1099511627776.25", 1 << 40), ("-15.75", -16)]
     {

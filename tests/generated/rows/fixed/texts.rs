@@ -5,10 +5,10 @@
 
 use crate::font_decimal::DecimalFault;
 use crate::font_fixed::*;
-use crate::rattle::alloc::{AllocError, Global};
-use crate::rattle::fmt::{Debug, Display};
-use crate::rattle::str::FromStr;
-use crate::rattle::test::Fail;
+use crate::std_for_tests::alloc::{AllocError, Global};
+use crate::std_for_tests::fmt::{Debug, Display};
+use crate::std_for_tests::str::FromStr;
+use crate::std_for_tests::test::Fail;
 
 /// Returns whether `number` prints as `text`, whatever the flags, and `text` parses back.
 fn prints<T>(alloc: Global, number: T, text: &str) -> Result<bool, AllocError>
@@ -21,7 +21,7 @@ where
 
 #[test]
 fn texts_with_flags() -> Result<(), Fail> {
-    let rt = crate::rattle::Host;
+    let rt = crate::std_for_tests::Host;
     let alloc = rt.alloc();
     assert!(rt; prints(alloc, F2Dot14::from_bits(-10139), "-0.61884")?);
     assert!(rt; prints(alloc, Fixed::from_bits(0x1_8000), "1.5")?);
@@ -46,7 +46,7 @@ where
 
 #[test]
 fn every_value_of_16_bits() -> Result<(), Fail> {
-    let rt = crate::rattle::Host;
+    let rt = crate::std_for_tests::Host;
     let alloc = rt.alloc();
     assert!(rt; not_parsed_back::<14>(alloc)?.is_none(), "2.14");
     assert!(rt; not_parsed_back::<12>(alloc)?.is_none(), "4.12");

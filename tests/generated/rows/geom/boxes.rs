@@ -4,7 +4,7 @@
 //! Also whether boxes have the values of requirements.md.
 
 use crate::font_geom::BoundingBox;
-use crate::rattle::cmp::Ordering;
+use crate::std_for_tests::cmp::Ordering;
 
 pub(super) fn sides(x_min: i32, y_min: i32, x_max: i32, y_max: i32) -> BoundingBox<i32> {
     BoundingBox { x_min, y_min, x_max, y_max }
@@ -12,7 +12,7 @@ pub(super) fn sides(x_min: i32, y_min: i32, x_max: i32, y_max: i32) -> BoundingB
 
 #[test]
 fn scale_by_a_negative_factor() {
-    let rt = crate::rattle::Host;
+    let rt = crate::std_for_tests::Host;
     let turned = sides(5, 5, 10, 10).scale(-2);
     assert!(rt; turned == sides(-10, -10, -20, -20) && !turned.is_normalized());
     assert!(rt; turned.normalize() == sides(-20, -20, -10, -10));
@@ -20,7 +20,7 @@ fn scale_by_a_negative_factor() {
 
 #[test]
 fn normalize() {
-    let rt = crate::rattle::Host;
+    let rt = crate::std_for_tests::Host;
     let (one, y_swapped, x_swapped) = (sides(1, 2, 3, 4), sides(1, 4, 3, 2), sides(3, 2, 1, 4));
     assert!(rt; one.is_normalized() && !sides(3, 4, 1, 2).is_normalized());
     assert!(rt; !y_swapped.is_normalized() && y_swapped.normalize() == one);
@@ -61,7 +61,7 @@ impl PartialOrd for Corner {
 
 #[test]
 fn normalize_incomparable_sides() {
-    let rt = crate::rattle::Host;
+    let rt = crate::std_for_tests::Host;
     let (left, right) = (Corner { x: 1, y: 2 }, Corner { x: 2, y: 1 });
     assert!(rt; left.partial_cmp(&right).is_none());
     let odd = BoundingBox { x_min: left, y_min: left, x_max: right, y_max: left };

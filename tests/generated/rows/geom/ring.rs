@@ -5,7 +5,7 @@
 use crate::font_fixed::Fixed;
 use crate::font_geom::laws::{action, associative, identity_neutral, step_and_halves};
 use crate::font_geom::{Matrix, MatrixElement, Point, RingElement};
-use crate::rattle::ops::{Add, Mul};
+use crate::std_for_tests::ops::{Add, Mul};
 
 /// A number of 32 bits whose sums and products wrap.
 #[derive(Clone, Copy, PartialEq, Eq)]
@@ -43,7 +43,7 @@ fn turns(numbers: [u32; 6]) -> Matrix<Turn> {
 
 #[test]
 fn products_associate() {
-    let rt = crate::rattle::Host;
+    let rt = crate::std_for_tests::Host;
     let a = turns([2, 3, 5, 7, 11, 13]);
     let b = turns([0x8000_0000, 1, 0xFFFF_FFFF, 4, 5, 6]);
     let c = turns([17, 0xFFFF_FFF0, 19, 23, 29, 31]);
@@ -53,7 +53,7 @@ fn products_associate() {
 
 #[test]
 fn products_act_on_points() {
-    let rt = crate::rattle::Host;
+    let rt = crate::std_for_tests::Host;
     let a = turns([2, 3, 5, 7, 11, 13]);
     let b = turns([0x8000_0000, 1, 0xFFFF_FFFF, 4, 5, 6]);
     let (p, image) = (Point::new(1, 0xFFFF_FFFF), Point::new(38, 0x8000_0034));
@@ -63,13 +63,13 @@ fn products_act_on_points() {
 
 #[test]
 fn identity_is_neutral() {
-    let rt = crate::rattle::Host;
+    let rt = crate::std_for_tests::Host;
     let a = turns([2, 3, 5, 7, 11, 0xFFFF_FFFF]);
     assert!(rt; identity_neutral(a) == (a, a));
 }
 
 #[test]
 fn fixed_products_do_not_associate() {
-    let rt = crate::rattle::Host;
+    let rt = crate::std_for_tests::Host;
     assert!(rt; step_and_halves() == (Fixed::EPSILON, Fixed::ZERO));
 }

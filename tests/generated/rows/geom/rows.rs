@@ -16,7 +16,7 @@ fn at((x, y): (i32, i32)) -> Point<Fixed> {
 
 #[test]
 fn products() {
-    let rt = crate::rattle::Host;
+    let rt = crate::std_for_tests::Host;
     for &(a, b, product) in &[
         ([2, 0, 0, 3, 0, 0], [1, 0, 0, 1, 10, 20], [2, 0, 0, 3, 20, 60]),
         ([1, 0, 0, 1, 10, 20], [2, 0, 0, 3, 0, 0], [2, 0, 0, 3, 10, 20]),
@@ -28,7 +28,7 @@ fn products() {
 
 #[test]
 fn images() {
-    let rt = crate::rattle::Host;
+    let rt = crate::std_for_tests::Host;
     for &(a, p, image) in &[
         ([1, 0, 0, 1, 10, 20], (5, -22), (15, -2)),
         ([2, 0, 0, 3, 0, 0], (5, -22), (10, -66)),
@@ -40,7 +40,7 @@ fn images() {
 
 #[test]
 fn images_composed_and_in_turn() {
-    let rt = crate::rattle::Host;
+    let rt = crate::std_for_tests::Host;
     for &(a, b, p, image) in &[
         // Nothing is rounded.
         ([2, 0, 0, 3, 0, 0], [1, 0, 0, 1, 10, 20], (5, -22), (30, -6)),
@@ -61,7 +61,7 @@ fn images_composed_and_in_turn() {
 // The composed image rounds apart from that in turn.
 #[test]
 fn images_that_round() {
-    let rt = crate::rattle::Host;
+    let rt = crate::std_for_tests::Host;
     let (mut a, mut b, p) = (Matrix::identity(), Matrix::identity(), at((100, 0)));
     (a.xx, b.xx) = (Fixed::from_bits(0x8000), Fixed::EPSILON);
     assert!(rt; composed(a, b, p) == Point::new(Fixed::from_bits(100), Fixed::ZERO));
@@ -70,7 +70,7 @@ fn images_that_round() {
 
 #[test]
 fn point_of_decimals() {
-    let rt = crate::rattle::Host;
+    let rt = crate::std_for_tests::Host;
     let read = |text: &str| F26Dot6::from_decimal(text).unwrap_or(F26Dot6::MIN);
     let mapped = Point::new("42.5", "20.1").map(read);
     assert!(rt; mapped == Point::new(F26Dot6::from_bits(2720), F26Dot6::from_bits(1286)));
@@ -78,7 +78,7 @@ fn point_of_decimals() {
 
 #[test]
 fn points_of_integers() {
-    let rt = crate::rattle::Host;
+    let rt = crate::std_for_tests::Host;
     let (p, q) = (Point::new(10, 16), Point::new(1, 2));
     assert!(rt; p + q == Point::new(11, 18) && p - q == Point::new(9, 14));
     assert!(rt; p * Point::new(2, 3) == Point::new(20, 48) && -p == Point::new(-10, -16));

@@ -5,9 +5,9 @@
 use super::boxes::sides;
 use crate::font_fixed::Fixed;
 use crate::font_geom::{BoundingBox, Matrix, MatrixElement, Point};
-use crate::rattle::alloc::{AllocError, Global};
-use crate::rattle::fmt::Debug;
-use crate::rattle::test::Fail;
+use crate::std_for_tests::alloc::{AllocError, Global};
+use crate::std_for_tests::fmt::Debug;
+use crate::std_for_tests::test::Fail;
 
 fn is_shape<T: Copy + Eq + Default + Debug>() {}
 
@@ -15,7 +15,7 @@ fn is_element<T: MatrixElement>() {}
 
 #[test]
 fn traits() {
-    let _rt = crate::rattle::Host;
+    let _rt = crate::std_for_tests::Host;
     is_shape::<Point<Fixed>>();
     is_shape::<BoundingBox<i32>>();
     is_shape::<Matrix<Fixed>>();
@@ -33,7 +33,7 @@ fn has_debug_text<T: Copy + Eq + Debug>(
 
 #[test]
 fn debug_and_clone() -> Result<(), Fail> {
-    let rt = crate::rattle::Host;
+    let rt = crate::std_for_tests::Host;
     let text = "BoundingBox { x_min: 0, y_min: 1, x_max: 2, y_max: 3 }";
     assert!(rt; has_debug_text(rt.alloc(), sides(0, 1, 2, 3), text)?);
     let text = "Matrix { xx: 1, yx: 0, xy: 0, yy: 1, dx: 0, dy: 0 }";

@@ -3,12 +3,12 @@
 //! What no clause says: texts of glyph ids, and of the error. And a row of requirements.md.
 
 use crate::font_ids::{GlyphId, GlyphId16, GlyphId24};
-use crate::rattle::cmp::Ordering;
-use crate::rattle::test::Fail;
+use crate::std_for_tests::cmp::Ordering;
+use crate::std_for_tests::test::Fail;
 
 #[test]
 fn conversion_error() -> Result<(), Fail> {
-    let rt = crate::rattle::Host;
+    let rt = crate::std_for_tests::Host;
     let wide = GlyphId::new(65536);
     let error = GlyphId16::try_from(wide).err().ok_or("refused")?;
     let text = format!(in rt.alloc(); "{error}; {error:?}")?;
@@ -19,7 +19,7 @@ fn conversion_error() -> Result<(), Fail> {
 
 #[test]
 fn glyph_id_texts() -> Result<(), Fail> {
-    let rt = crate::rattle::Host;
+    let rt = crate::std_for_tests::Host;
     let (narrow, middle, wide) = (GlyphId16::new(5), GlyphId24::new(5), GlyphId::new(5));
     let text = format!(in rt.alloc(); "{narrow} {middle} {wide} {narrow:?} {middle:?} {wide:?}")?;
     let printed = "GID_5 GID_5 GID_5 GlyphId16(5) GlyphId24(Uint24(5)) GlyphId(5)";
@@ -29,7 +29,7 @@ fn glyph_id_texts() -> Result<(), Fail> {
 
 #[test]
 fn order_of_ids() {
-    let rt = crate::rattle::Host;
+    let rt = crate::std_for_tests::Host;
     let (wide, narrow) = (GlyphId::new(0x1_0000), GlyphId16::new(0xFFFF));
     assert!(rt; wide.cmp_gid16(&narrow) == Ordering::Greater);
 }

@@ -4,7 +4,7 @@
 
 use crate::font_base::{BigEndian, TableDataRef, TableHeader};
 use crate::font_ids::{Offset32, Tag, Version16Dot16};
-use crate::rattle::test::Fail;
+use crate::std_for_tests::test::Fail;
 
 struct RecordHeader {
     tag: BigEndian<Tag>,
@@ -29,7 +29,7 @@ const BYTES: [u8; 13] =
 
 #[test]
 fn header_of_twelve_bytes() -> Result<(), Fail> {
-    let rt = crate::rattle::Host;
+    let rt = crate::std_for_tests::Host;
     for len in [12, 13] {
         let table = TableDataRef::<RecordHeader>::new(&BYTES[..len]).ok_or("long enough")?;
         let header = table.header();

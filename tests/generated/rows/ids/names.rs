@@ -3,8 +3,8 @@
 //! Whether name ids have the numbers and names of OpenType.
 
 use crate::font_ids::NameId;
-use crate::rattle::alloc::{AllocError, Global};
-use crate::rattle::test::Fail;
+use crate::std_for_tests::alloc::{AllocError, Global};
+use crate::std_for_tests::test::Fail;
 
 // The constants, each with its number and its text, of `{}` and `{:?}`.
 macro_rules! named {
@@ -53,7 +53,7 @@ fn is_shown(alloc: Global, id: NameId, text: &str) -> Result<bool, AllocError> {
 
 #[test]
 fn named() -> Result<(), Fail> {
-    let rt = crate::rattle::Host;
+    let rt = crate::std_for_tests::Host;
     for &(id, number, name) in NAMED.iter().chain(&UNNAMED) {
         let is = id.to_u16() == number && is_shown(rt.alloc(), id, name)?;
         assert!(rt; is, "{name}");
@@ -63,7 +63,7 @@ fn named() -> Result<(), Fail> {
 
 #[test]
 fn texts_of_other_numbers() -> Result<(), Fail> {
-    let rt = crate::rattle::Host;
+    let rt = crate::std_for_tests::Host;
     assert!(rt; is_shown(rt.alloc(), NameId::new(15), "NameId 15")?);
     assert!(rt; is_shown(rt.alloc(), NameId::new(26), "NameId 26")?);
     assert!(rt; is_shown(rt.alloc(), NameId::default(), "NameId 65535")?);
@@ -72,7 +72,7 @@ fn texts_of_other_numbers() -> Result<(), Fail> {
 
 #[test]
 fn predefined() {
-    let rt = crate::rattle::Host;
+    let rt = crate::std_for_tests::Host;
     assert!(rt; NameId::predefined().count() == 25);
     let mut left = NameId::predefined();
     for count in [25, 24, 23] {
@@ -91,7 +91,7 @@ fn predefined() {
 
 #[test]
 fn checked_sums() {
-    let rt = crate::rattle::Host;
+    let rt = crate::std_for_tests::Host;
     for &(number, more, sum) in &[(40000, 0, None), (32766, 1, Some(32767))] {
         let found = NameId::new(number).checked_add(more);
         assert!(rt; found.map(NameId::to_u16) == sum, "{number} + {more}");

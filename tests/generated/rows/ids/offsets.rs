@@ -4,11 +4,11 @@
 
 use crate::font_base::{FixedSize, Scalar, Uint24};
 use crate::font_ids::{Nullable, Offset16, Offset24, Offset32};
-use crate::rattle::test::Fail;
+use crate::std_for_tests::test::Fail;
 
 #[test]
 fn nullable() -> Result<(), Fail> {
-    let rt = crate::rattle::Host;
+    let rt = crate::std_for_tests::Host;
     let null = Nullable::<Offset24>::read(&[0, 0, 0]).ok_or("three bytes")?;
     assert!(rt; null.is_null() && null == Nullable::default());
     assert!(rt; Nullable::<Offset32>::read(&[0, 0, 0]).is_none());
@@ -20,7 +20,7 @@ fn nullable() -> Result<(), Fail> {
 
 #[test]
 fn offset_texts() -> Result<(), Fail> {
-    let rt = crate::rattle::Host;
+    let rt = crate::std_for_tests::Host;
     let (short, middle) = (Offset16::new(5), Offset24::new(Uint24::new(5)));
     let null = Nullable::<Offset16>::default();
     let text = format!(in rt.alloc(); "{short:?} {middle:?} {:?} {null:?}", Offset32::new(5))?;

@@ -8,11 +8,11 @@ use crate::font_ids::{
     FWord, GlyphId, GlyphId16, GlyphId24, NameId, Nullable, Offset16, Offset24, Offset32,
     OffsetValue, UfWord,
 };
-use crate::rattle::alloc::{AllocError, Global};
-use crate::rattle::collections::HashSet;
-use crate::rattle::fmt::{Debug, Display};
-use crate::rattle::hash::Hash;
-use crate::rattle::test::Fail;
+use crate::std_for_tests::alloc::{AllocError, Global};
+use crate::std_for_tests::collections::HashSet;
+use crate::std_for_tests::fmt::{Debug, Display};
+use crate::std_for_tests::hash::Hash;
+use crate::std_for_tests::test::Fail;
 
 fn is_identifier<T: Copy + Ord + Hash + Default + Display + Debug>() {}
 
@@ -24,7 +24,7 @@ fn is_nullable<T: Copy + Eq + Default + Debug + Scalar>() {}
 
 #[test]
 fn traits() {
-    let _rt = crate::rattle::Host;
+    let _rt = crate::std_for_tests::Host;
     is_number::<FWord>();
     is_number::<UfWord>();
     is_number::<GlyphId16>();
@@ -51,7 +51,7 @@ fn is_found<T: Copy + Eq + Hash>(
 
 #[test]
 fn hash() -> Result<(), Fail> {
-    let rt = crate::rattle::Host;
+    let rt = crate::std_for_tests::Host;
     let (alloc, wide) = (rt.alloc(), GlyphId24::new(70000));
     assert!(rt;
         is_found(

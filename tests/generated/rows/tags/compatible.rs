@@ -47,14 +47,14 @@ fn number_is_transitive(first: u16, second: u16, third: u16) -> bool {
 
 #[test]
 fn compatible_is_reflexive() {
-    let rt = crate::rattle::Host;
+    let rt = crate::std_for_tests::Host;
     assert!(rt; packed_is_reflexive(Version16Dot16::VERSION_1_1));
     assert!(rt; pair_is_reflexive(MajorMinor::VERSION_1_2) && number_is_reflexive(3));
 }
 
 #[test]
 fn compatible_is_transitive() {
-    let rt = crate::rattle::Host;
+    let rt = crate::std_for_tests::Host;
     let [packed, lower, lowest] = [9, 5, 1].map(|minor| Version16Dot16::new(1, minor));
     assert!(rt; packed_is_transitive(packed, lower, lowest) && number_is_transitive(3, 2, 1));
     let [pair, lower, lowest] = [3, 2, 1].map(|minor| MajorMinor::new(1, minor));

@@ -5,13 +5,13 @@
 
 use crate::font_base::Scalar;
 use crate::font_tags::{InvalidTag, TTC_HEADER_TAG, Tag};
-use crate::rattle::alloc::{AllocError, Global};
-use crate::rattle::str::FromStr;
-use crate::rattle::test::Fail;
+use crate::std_for_tests::alloc::{AllocError, Global};
+use crate::std_for_tests::str::FromStr;
+use crate::std_for_tests::test::Fail;
 
 #[test]
 fn valid_texts() {
-    let rt = crate::rattle::Host;
+    let rt = crate::std_for_tests::Host;
     let texts = ["a", "bc", "cv1", "head", "!", "~ "];
     let tags = [b"a   ", b"bc  ", b"cv1 ", b"head", b"!   ", b"~   "].map(|tag| Ok(Tag::new(tag)));
     assert!(rt; texts.map(|text| Tag::new_checked(text.as_bytes())) == tags);
@@ -21,7 +21,7 @@ fn valid_texts() {
 
 #[test]
 fn invalid_bytes() {
-    let rt = crate::rattle::Host;
+    let rt = crate::std_for_tests::Host;
     for &(text, pos, byte) in &[
         ("b c", 2, 0x63),
         ("    ", 0, 0x20),
@@ -40,7 +40,7 @@ fn invalid_bytes() {
 
 #[test]
 fn invalid_lengths() {
-    let rt = crate::rattle::Host;
+    let rt = crate::std_for_tests::Host;
     for &(text, len) in &[("", 0), ("abcde", 5), ("a\0cde", 5), ("abc\u{e9}", 5)] {
         let fault = Err(InvalidTag::InvalidLength(len));
         assert!(rt;
@@ -52,7 +52,7 @@ fn invalid_lengths() {
 
 #[test]
 fn validate_valid_tags() {
-    let rt = crate::rattle::Host;
+    let rt = crate::std_for_tests::Host;
     for tag in &[b"head", b"a   ", b"ab  ", b"abc ", b"!333", b"~333"] {
         assert!(rt; Tag::new(tag).validate().is_ok(), "{}", Tag::new(tag));
     }
@@ -60,7 +60,7 @@ fn validate_valid_tags() {
 
 #[test]
 fn validate_invalid_tags() {
-    let rt = crate::rattle::Host;
+    let rt = crate::std_for_tests::Host;
     for &(tag, ref fault) in &[
         (b"    ", InvalidTag::InvalidLength(0)),
         (b"b cc", InvalidTag::ByteAfterSpace { pos: 2 }),
@@ -86,7 +86,7 @@ fn is_printed(alloc: Global, tag: Tag, text: &str) -> Result<bool, AllocError> {
 
 #[test]
 fn tag_texts() -> Result<(), Fail> {
-    let rt = crate::rattle::Host;
+    let rt = crate::std_for_tests::Host;
     for &(tag, text) in &[
         (0x197A_407F, "{0x19}z@{0x7F}"),
         (0x6376_7420, "cvt "),
@@ -101,7 +101,7 @@ fn tag_texts() -> Result<(), Fail> {
 
 #[test]
 fn error_texts() -> Result<(), Fail> {
-    let rt = crate::rattle::Host;
+    let rt = crate::std_for_tests::Host;
     for &(ref fault, text) in &[
         (InvalidTag::InvalidLength(5), "Invalid length (5) InvalidLength(5)"),
         (

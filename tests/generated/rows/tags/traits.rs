@@ -5,12 +5,12 @@
 
 use crate::font_base::{IdentityEq, Scalar};
 use crate::font_tags::{Compatible, InvalidTag, LongDateTime, MajorMinor, Tag, Version16Dot16};
-use crate::rattle::alloc::{AllocError, Global};
-use crate::rattle::collections::HashSet;
-use crate::rattle::fmt::{Debug, Display};
-use crate::rattle::hash::Hash;
-use crate::rattle::str::FromStr;
-use crate::rattle::test::Fail;
+use crate::std_for_tests::alloc::{AllocError, Global};
+use crate::std_for_tests::collections::HashSet;
+use crate::std_for_tests::fmt::{Debug, Display};
+use crate::std_for_tests::hash::Hash;
+use crate::std_for_tests::str::FromStr;
+use crate::std_for_tests::test::Fail;
 
 /// Returns whether a set of one value has an equal value, and not another.
 fn is_scalar<T>(alloc: Global, value: T, equal: T, other: T) -> Result<bool, AllocError>
@@ -32,7 +32,7 @@ fn is_error<T: Clone + Eq + Debug + Display>() {}
 
 #[test]
 fn traits() -> Result<(), Fail> {
-    let rt = crate::rattle::Host;
+    let rt = crate::std_for_tests::Host;
     is_display::<Tag>();
     is_from_str::<Tag>();
     is_error::<InvalidTag>();

@@ -5,11 +5,11 @@
 
 use crate::font_base::{FixedSize, Scalar};
 use crate::font_tags::{Compatible, LongDateTime, MajorMinor, Version16Dot16};
-use crate::rattle::test::Fail;
+use crate::std_for_tests::test::Fail;
 
 #[test]
 fn version16dot16_numbers() {
-    let rt = crate::rattle::Host;
+    let rt = crate::std_for_tests::Host;
     for &(major, minor, version) in &[
         (0, 5, Version16Dot16::VERSION_0_5),
         (1, 0, Version16Dot16::VERSION_1_0),
@@ -36,7 +36,7 @@ fn version16dot16_numbers() {
 
 #[test]
 fn version16dot16_bytes() {
-    let rt = crate::rattle::Host;
+    let rt = crate::std_for_tests::Host;
     let default = Version16Dot16::default();
     assert!(rt; Version16Dot16::VERSION_2_5.to_be_bytes() == [0x00, 0x02, 0x50, 0x00]);
     assert!(rt; Version16Dot16::from_raw([0, 1, 0xF0, 0]).to_major_minor() == (1, 15));
@@ -47,7 +47,7 @@ fn version16dot16_bytes() {
 
 #[test]
 fn version_texts() -> Result<(), Fail> {
-    let rt = crate::rattle::Host;
+    let rt = crate::std_for_tests::Host;
     let [odd, high] = [[0, 1, 0xF0, 0xAB], [0, 1, 0xF0, 0]].map(Version16Dot16::from_raw);
     let text = format!(in rt.alloc(); "{high} {odd} {odd:?}")?;
     assert!(rt; text.as_str() == "1.15 1.15 Version16Dot16(0001f0ab)");
@@ -59,7 +59,7 @@ fn version_texts() -> Result<(), Fail> {
 
 #[test]
 fn major_minor_constants() {
-    let rt = crate::rattle::Host;
+    let rt = crate::std_for_tests::Host;
     for &(major, minor, version) in &[
         (1, 0, MajorMinor::VERSION_1_0),
         (1, 1, MajorMinor::VERSION_1_1),
@@ -77,7 +77,7 @@ fn major_minor_constants() {
 
 #[test]
 fn long_date_time() -> Result<(), Fail> {
-    let rt = crate::rattle::Host;
+    let rt = crate::std_for_tests::Host;
     let (date, before) = (LongDateTime::new(1234569101), LongDateTime::new(-1));
     assert!(rt; date.as_secs() == 1234569101 && before < LongDateTime::default());
     assert!(rt; date.to_be_bytes() == [0, 0, 0, 0, 0x49, 0x96, 0x07, 0x8D]);

@@ -18,8 +18,8 @@ macro_rules! assert {
 
 macro_rules! format {
     (in $alloc:expr; $($of:tt)*) => {{
-        let _: crate::rattle::alloc::Global = $alloc;
-        Ok::<String, crate::rattle::alloc::AllocError>(::std::format!($($of)*))
+        let _: crate::std_for_tests::alloc::Global = $alloc;
+        Ok::<String, crate::std_for_tests::alloc::AllocError>(::std::format!($($of)*))
     }};
 }
 
