@@ -99,7 +99,7 @@ def text(path: str) -> str:
     return (ROOT / path).read_text()
 
 
-def of(start: str, *endings: str) -> list[str]:
+def of(start: str | tuple[str, ...], *endings: str) -> list[str]:
     """Returns the paths of the files that start and end so."""
     return [path for path in FILES if path.startswith(start) and path.endswith(endings or ("",))]
 
