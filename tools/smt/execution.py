@@ -192,7 +192,7 @@ class Machine:
         phis = [it for it in function.blocks[target] if it.op == "phi"]
         values: dict[str, Value] = {it.target: self.phi(it, state) for it in phis}
         if self.loops and self.loops.is_head(function, target):
-            found = self.loops.at_head(function, target, phis, values, state)
+            found = self.loops.at_head(function, target, values, state)
             if found is None:
                 return
             values = found

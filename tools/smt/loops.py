@@ -55,12 +55,7 @@ class Loops:
         return block in seen
 
     def at_head(
-        self,
-        function: Function,
-        block: str,
-        phis: list[Instruction],
-        values: dict[str, Value],
-        state: State,
+        self, function: Function, block: str, values: dict[str, Value], state: State
     ) -> dict[str, Value] | None:
         """Before the first turn, shows the invariant and returns any values that meet it. After a
         turn, shows that the values meet it again."""
