@@ -60,7 +60,8 @@ impl<T: Scalar<Raw = [u8; S]>, const S: usize, const N: usize> Scalar for [T; N]
     }
 }
 
-/// What a field of a [`record!`](crate::record!) may be: a scalar.
+/// What a field of a [`record!`](crate::record!) may be: a scalar. Its functions move `next`, the
+/// start of the field, to its end: rustc takes longer for a record that does so itself.
 #[doc(hidden)]
 #[diagnostic::on_unimplemented(
     message = "`{Self}` cannot be a field of a record",
@@ -70,9 +71,9 @@ impl<T: Scalar<Raw = [u8; S]>, const S: usize, const N: usize> Scalar for [T; N]
 pub trait RecordField: Sized {
     const FIELD_LEN: usize;
 
-    fn read_field(bytes: &[u8], offset: usize) -> Option<Self>;
+    fn read_field(bytes: &[u8], next: &mut usize) -> Self;
 
-    fn write_field(self, bytes: &mut [u8], offset: usize) -> Option<()>;
+    fn write_field(self, bytes: &mut [u8], next: &mut usize);
 }
 
 #[diagnostic::do_not_recommend]
@@ -80,13 +81,17 @@ impl<T: Scalar> RecordField for T {
     const FIELD_LEN: usize = T::RAW_BYTE_LEN;
 
     #[inline]
-    fn read_field(bytes: &[u8], offset: usize) -> Option<Self> {
-        T::read_at(bytes, offset)
+    fn read_field(bytes: &[u8], next: &mut usize) -> Self {
+        let start = *next;
+        *next += T::RAW_BYTE_LEN;
+        T::read_at(bytes, start).unwrap()
     }
 
     #[inline]
-    fn write_field(self, bytes: &mut [u8], offset: usize) -> Option<()> {
-        self.write_at(bytes, offset)
+    fn write_field(self, bytes: &mut [u8], next: &mut usize) {
+        let start = *next;
+        *next += T::RAW_BYTE_LEN;
+        self.write_at(bytes, start).unwrap();
     }
 }
 
@@ -150,23 +155,19 @@ macro_rules! record {
 
             #[inline]
             fn from_raw(raw: Self::Raw) -> Self {
-                let mut end = 0;
-                $(
-                    let start = end;
-                    end += <$Field as $crate::RecordField>::FIELD_LEN;
-                    let $field = <$Field as $crate::RecordField>::read_field(&raw, start).unwrap();
-                )+
-                Self { $($field,)+ }
+                let mut next = 0;
+                Self {
+                    $($field: <$Field as $crate::RecordField>::read_field(&raw, &mut next),)+
+                }
             }
 
             #[inline]
             fn to_raw(self) -> Self::Raw {
-                let (mut raw, mut end) = ([0; <$Name as $crate::FixedSize>::RAW_BYTE_LEN], 0);
+                let (mut raw, mut next) = ([0; <$Name as $crate::FixedSize>::RAW_BYTE_LEN], 0);
                 $(
-                    let start = end;
-                    end += <$Field as $crate::RecordField>::FIELD_LEN;
-                    <$Field as $crate::RecordField>::write_field(self.$field, &mut raw, start)
-                        .unwrap();
+                    <$Field as $crate::RecordField>::write_field(
+                        self.$field, &mut raw, &mut next,
+                    );
                 )+
                 raw
             }
