@@ -57,6 +57,8 @@ fn parsed_with_any_fraction_bits_and_range() {
                 assert_eq!(found, right, "{row}");
                 let found = returned(|| read_decimal_bytes(text.as_bytes(), f, min, max));
                 assert_eq!(found, right, "{row}");
+                let found = returned(|| laws::printed_again(text, f, min, max).map(|_| ()));
+                assert_eq!(found, right.map(|right| right.map(|_| ())), "{row}");
                 let found = returned(|| laws::reads_in_order("0.5", text, f, min, max));
                 let right = right.map(|right| (parsed("0.5", f, min, max), right));
                 assert_eq!(found, right, "{row}");

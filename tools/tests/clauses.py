@@ -1,6 +1,6 @@
 """Each public function, trait method, law and export has a contract for what it gives: its clauses
 name `result`, if it returns something, and `x.new` of each `x: &mut T`; and each `impl` of a trait
-has a ghost item."""
+has a ghost item. PROMISES lists the functions with a precondition."""
 
 import pathlib
 import re
@@ -17,6 +17,9 @@ from eraser import LIBRARY, Crate, Eraser
 # Clauses of no name, of std and of a call, and what an edit adds.
 OF_OTHERS = {"ensures", "steps", "exact", "place", "decode"}
 OF_EDITS = {"call of decode", "five bytes", "Level"}
+
+# Files of `font_fixed` whose public functions take raw values, and are not in the package's API.
+RAW_VALUES = ("products", "reading", "rounding")
 
 # The clauses of these traits are of their functions alone.
 WITHOUT_GHOST = ("ExactSizeIterator", "ByteChunks")
@@ -72,8 +75,9 @@ def before(words: list[str], at: int) -> list[str]:
     return words[first:at]
 
 
-def missing(eraser: Eraser) -> Iterator[tuple[int, str]]:
-    """Yields each place of a file where a contract lacks something, and what."""
+def missing(eraser: Eraser, required: set[str]) -> Iterator[tuple[int, str]]:
+    """Yields each place of a file where a contract lacks something, and what. Adds the names of
+    functions with a precondition."""
     words = eraser.words
     traits: list[range] = []
     for at in eraser.visited:
@@ -90,8 +94,9 @@ def missing(eraser: Eraser) -> Iterator[tuple[int, str]]:
             kinds = before(words, at)
             if "crate" in kinds or "pub" not in kinds and not any(at in it for it in traits):
                 continue
-            clauses = [says(eraser, clause) for clause in eraser.header_and_clauses(at).clauses]
-            text = "".join(clauses)
+            clauses = eraser.header_and_clauses(at).clauses
+            required |= {words[at + 1] for clause in clauses if words[clause.start] == "requires"}
+            text = "".join(says(eraser, clause) for clause in clauses)
             is_whole = re.search(r" result (?!\. \d)", text)
             for name in gives(eraser, at):
                 if f" {name} " not in text and not (name[:6] == "result" and is_whole):
@@ -101,17 +106,22 @@ def missing(eraser: Eraser) -> Iterator[tuple[int, str]]:
 class Contracts(unittest.TestCase):
     def test_all_that_is_given(self) -> None:
         faults, functions = [], 0
+        required: set[str] = set()
         for crate in [*LIBRARY, "variations", "font_c"]:
             for path in sorted((ROOT / f"crates/{crate}/src").rglob("*.rt")):
                 if "tests" in path.parts or path.stem == "tests":
                     continue
                 eraser = Eraser(path.read_text(), Crate(crate, "tests"), False)
                 functions += eraser.words.count("fn")
-                for at, what in missing(eraser):
+                is_exported = path.stem not in RAW_VALUES
+                for at, what in missing(eraser, required if is_exported else set()):
                     line = eraser.tokens[eraser.places[at]].line
                     faults.append(f"{path.relative_to(ROOT)}:{line}: {what}")
         self.assertFalse(faults, "\n".join(faults))
         self.assertGreater(functions, 600)
+        page = (ROOT / "docs/PROMISES.md").read_text().split("| Function | Precondition |")[1]
+        rows = re.findall(r"(?m)^\| (`.*?) \|", page.split("\n\n")[0])
+        self.assertEqual(set(re.findall(r"(\w+)`", " ".join(rows))), required)
 
     def test_first_lines_of_mutants(self) -> None:
         """Each names a function, and a clause, a ghost item or a part of a definition."""
