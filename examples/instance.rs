@@ -5,10 +5,7 @@
 //! What is here finds the tables. What reads them and computes coordinates and advances is proved:
 //! it is the package `font-variations-proved`.
 //!
-//! At given 2.14 coordinates, in a font whose regions have n axes (n > 0), an advance differs from
-//! the exact one by at most 1/2 + (n - 1/2) * (the sum of the magnitudes of its deltas) / 65536
-//! font units. "Exact" begins at those coordinates: what was rounded to reach them is not counted.
-//! c/README.md says what is rounded.
+//! variations/README.md says how far an advance may be from the exact one.
 
 pub mod font;
 

@@ -831,10 +831,10 @@ FTY_API_MUST_USE fty_status fty_delta_sum(
  * font: the set has as many deltas of 16 bits as its low 15 bits say, followed by deltas
  * of 8 bits, or of 32 and of 16 bits if its bit 0x8000 is set. The set has as many deltas
  * as there are scalars, and exactly the bytes that these take, fty_delta_set_length. The sum
- * is exact for the scalars given; what rounded these before is not in it: see "How exact" in
- * c/README.md.
- * Fails by FTY_TOO_MANY; by FTY_COUNT_MISMATCH, also if the low 15 bits of `word_count`
- * exceed the number of scalars; and by FTY_OUT_OF_RANGE if bit 0x8000 is set.
+ * is exact for the scalars given; what rounded these before is not in it.
+ * Fails by FTY_TOO_MANY; by FTY_COUNT_MISMATCH if the set has fewer or more bytes, or the low
+ * 15 bits of `word_count` exceed the number of scalars; and by FTY_OUT_OF_RANGE if bit 0x8000
+ * is set.
  */
 FTY_API_MUST_USE fty_status fty_delta_set_sum(
     const int32_t *scalars, size_t scalar_count, const uint8_t *set, size_t set_length,
