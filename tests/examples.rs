@@ -232,9 +232,10 @@ fn advances_along_two_axes() {
 #[test]
 fn metrics_along_two_axes() {
     let table = |size: u16, count: u16| {
-        let head = words(&[1, 0, 0, size, count, 12 + 3 * 10]);
+        let head = words(&[1, 0, 0, size, count, 12 + 4 * 10]);
         let record = |tag: &[u8; 4], set: [u16; 2]| [&tag[..], &words(&set), &[7, 7]].concat();
-        let sets = [(b"xhgt", [0, 0]), (b"hasc", [0, 1]), (b"undo", [0xFFFF, 0xFFFF])];
+        let sets =
+            [(b"xhgt", [0, 0]), (b"hasc", [0, 1]), (b"undo", [65535; 2]), (b"cpht", [256, 0])];
         let records = sets.map(|(tag, set)| record(tag, set)).concat();
         let mvar = [head, records, hvar_of_two_axes(&[])[20..].to_vec()].concat();
         font_of([(b"MVAR", mvar), (b"fvar", two_axes())])
@@ -251,8 +252,9 @@ fn metrics_along_two_axes() {
         });
         assert_eq!(found, Some(right), "{at:?}");
     }
-    // Records that do not hold a set, of no bytes, and more than the table has.
-    for (size, count) in [(7, 3), (0, 3), (10, 3000)] {
+    // Records that do not hold a set, of no bytes, and more than the table has; and the outer index
+    // 256 of the fourth, which the store does not have.
+    for (size, count) in [(7, 3), (0, 3), (10, 3000), (10, 4)] {
         assert_eq!(found(&table(size, count), [0, 0]), None, "{size} {count}");
     }
     // The record of an axis ends before the fields that are read.
@@ -533,8 +535,15 @@ fn variations_that_are_refused() {
     ];
     let (glyph, peak) = (GlyphId16::new(0), [F2Dot14::ONE]);
     let (store, set) = store_and_set(&hvar, glyph).unwrap();
-    assert_eq!(varied_by(UfWord::new(0xFFD7), store, set, &peak), Some(UfWord::new(0xFFFF)));
-    assert_eq!(varied_by(UfWord::new(0xFFD8), store, set, &peak), None);
+    let mut scalars = [Fixed::ZERO];
+    let instance = StoreInstance::new(store, &peak, &mut scalars).unwrap();
+    for (advance, varied) in [(0xFFD7, Some(0xFFFF)), (0xFFD8, None)] {
+        let (advance, varied) = (UfWord::new(advance), varied.map(UfWord::new));
+        assert_eq!(varied_by(advance, store, set, &peak), varied);
+        assert_eq!(instance.varied(advance, set), varied);
+    }
+    // No room for the scalar of the region.
+    assert!(StoreInstance::new(store, &peak, &mut []).is_none());
     // Seven subtables, whose offsets would end after the store.
     let mut of_seven = store.to_vec();
     of_seven[7] = 7;
