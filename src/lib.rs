@@ -111,6 +111,21 @@ mod porting {}
 /// # }
 /// assert!(ScalarArray::<Sign>::read_at(&[0; 4], 2, 1).is_some());
 /// ```
+///
+/// And as a field of a record:
+///
+/// ```compile_fail,E0080
+/// # use font_types_proved::{FixedSize, Scalar, record};
+/// # struct Sign(i8);
+/// # impl FixedSize for Sign { const RAW_BYTE_LEN: usize = 2; }
+/// # impl Scalar for Sign {
+/// #     type Raw = [u8; 1];
+/// #     fn from_raw(raw: [u8; 1]) -> Self { Self(i8::from_be_bytes(raw)) }
+/// #     fn to_raw(self) -> [u8; 1] { self.0.to_be_bytes() }
+/// # }
+/// record! { struct Signs { sign: Sign } }
+/// assert!(Signs::read_at(&[0; 2], 0).is_some());
+/// ```
 #[cfg(doctest)]
 mod length_of_another {}
 

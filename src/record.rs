@@ -78,7 +78,10 @@ pub trait RecordField: Sized {
 
 #[diagnostic::do_not_recommend]
 impl<T: Scalar> RecordField for T {
-    const FIELD_LEN: usize = T::RAW_BYTE_LEN;
+    const FIELD_LEN: usize = {
+        assert!(T::RAW_BYTE_LEN == <T::Raw as BeByteArray>::LEN);
+        T::RAW_BYTE_LEN
+    };
 
     #[inline]
     fn read_field(bytes: &[u8], next: &mut usize) -> Self {

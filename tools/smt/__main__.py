@@ -3,7 +3,7 @@
 `python3 tools/smt [--checked] [--only PATTERN] [--goals FOLDER] [--tree FOLDER]`
 
 `--checked` compiles with checks of overflow and debug assertions, and so shows that none of them
-fails. Without it, the build is that of `cargo build --release`. `--goals` keeps each goal as a file
+fails. Without it, the build has neither, like a release build. `--goals` keeps each goal as a file
 of SMT-LIB, for another solver."""
 
 import argparse
