@@ -33,8 +33,8 @@ pub fn region_count(store: &[u8]) -> Option<u16>
 /// An item variation store at the coordinates of an instance, with the scalar of each region. It
 /// answers as [`varied_by`](crate::advances::varied_by) does at these coordinates.
 ///
-/// `new` walks each axis of each region once, which is linear in the bytes of the store. After that
-/// a column of a set takes one product, whatever the number of axes.
+/// `new` walks each axis of each region once. Its time is linear in the bytes of the store and the
+/// number of its regions, which is at most 32,767. After that a delta of a set takes one product.
 #[derive(Clone, Copy, Debug)]
 pub struct StoreInstance<'a> {
     store: &'a [u8],
