@@ -22,15 +22,16 @@ SIGNS = {"Add": "+", "Sub": "-", "Mul": "*", "Div": "/"}
 
 # Why a function is in no row: the first rule whose pattern its file, head and signature have.
 SLICES = r"&('a )?(mut )?(\[[^;\]]*\]|str)|Shortest|FromStr|Pad\b|Predefined|ScalarArray|TableData"
+GENERIC = r"\bFn|<('a, )?(const )?[A-EG-Z]\b|: pub trait"
 RULES = {
     "format, hash or copy": r"\b(fmt::|Display|Debug|Hash|Clone)\b",
     "take, return or walk over texts or arrays of any length": SLICES,
-    "are laws, of functions that have rows": r"^\w+/laws",
+    "are laws about functions that have rows": r"^\w+/laws",
     "are not exported": r"NOT EXPORTED",
-    "call code of the caller's type": r"\bFn|<('a, )?(const )?[A-EG-Z]\b|: pub trait",
+    "call the caller's closure, or functions of the caller's type": GENERIC,
     "take no argument": r"fn \w+\(\)",
 }
-IN_A_ROW = "are in a row, and so proved"
+IN_A_ROW = "have a row, and so are proved"
 
 
 class Function:
