@@ -22,7 +22,7 @@ record! {
     }
 }
 
-/// Writes a line for each table that the font has, and for each character.
+/// Writes fields of `head`, `hhea`, `maxp`, `OS/2` and `name`, and a line for each character.
 pub fn dump(font: &Font<'_>, characters: &str, out: &mut impl Write) -> fmt::Result {
     if let Some(head) = font.table(b"head") {
         line::<MajorMinor>(out, "head version", head, 0)?;

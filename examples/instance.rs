@@ -2,8 +2,9 @@
 //! deltas of `metrics`, in an instance of a variable font:
 //! `cargo run --example instance -- FONT TEXT 36 37 wght=600 wdth=87.5`.
 //!
-//! What is here finds the tables. What reads them and computes coordinates and advances is proved:
-//! it is the package `font-variations-proved`.
+//! What is here finds the tables, and reads `cmap`, `hmtx`, `MVAR` and the list of axes. What reads
+//! an axis, `avar` and `HVAR`, and computes coordinates and varied advances, is proved: it is the
+//! package `font-variations-proved`.
 //!
 //! variations/README.md says how far an advance may be from the exact one.
 
