@@ -281,7 +281,7 @@ FTY_API_INLINE fty_view fty_api_to(fty_view view, uint32_t start) FTY_API_NOEXCE
 
 /**
  * The bytes from where the 16-bit offset at `offset` points, to the end of the view; absent
- * if that offset is 0, missing, or past the end. (fty_part with the field's value would give
+ * if that offset is 0, missing, or past the end. (fty_from with the field's value would give
  * the whole view for an offset that is 0 or missing.)
  */
 FTY_API_INLINE fty_view fty_at_offset16(fty_view view, size_t offset) FTY_API_NOEXCEPT {
