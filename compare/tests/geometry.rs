@@ -1,6 +1,37 @@
-//! Boxes of `Fixed`.
+//! Matrices, points and boxes of `Fixed`.
 
 use compare::{Random, assert_same};
+use std::array::from_fn;
+
+#[test]
+fn matrices() {
+    let mut random = Random::new(1);
+    for _ in 0..1_000_000 {
+        let bits = [0; 14].map(|_| random.i32());
+        assert_same!(bits, |k| {
+            let x = bits.map(k::Fixed::from_bits);
+            let [a, b] = [0, 6].map(|at| k::Matrix::from_elements(from_fn(|n| x[at + n])));
+            let p = k::Point::new(x[12], x[13]);
+            let images = [a * p, (a * b) * p, a * (b * p)];
+            let images = images.map(|p| [p.x, p.y].map(k::Fixed::to_bits));
+            ((a * b).elements().map(k::Fixed::to_bits), images)
+        });
+    }
+}
+
+#[test]
+fn points() {
+    let mut random = Random::new(2);
+    for _ in 0..500_000 {
+        let bits = [0; 5].map(|_| random.i32());
+        assert_same!(bits, |k| {
+            let [a, b, c, d, n] = bits.map(k::Fixed::from_bits);
+            let (p, q) = (k::Point::new(a, b), k::Point::new(c, d));
+            let points = [p + q, p - q, p * q, p / q, -p, p * n, p / n];
+            points.map(|p| [p.x, p.y].map(k::Fixed::to_bits))
+        });
+    }
+}
 
 #[test]
 fn boxes() {

@@ -31,7 +31,7 @@ OTHERS = (
 # of its files, and a text.
 COUNTS = [
     ("tests/", ".rs", "#[test]\n", 204),
-    ("compare/tests/", ".rs", "#[test]\n", 29),
+    ("compare/tests/", ".rs", "#[test]\n", 35),
     ("crates/", ".rt", "#[test]\n", 149),
     ("tools/tests/", ".py", "\n    def test_", 23),
     ("tests/", ".rs", "#[ignore", 0),
