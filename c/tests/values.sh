@@ -30,11 +30,6 @@ for compiler in "${compilers[@]}"; do
     $c -std=c99 "-I$work/storing" $strict tests/header.c -o "$work/header"
     fails "$work/header"
     [[ $(<"$work/log") != *' 0 failed'* ]]
-    $c -std=c99 $strict $warnings tests/narrowed.c -o "$work/narrowed"
-    "$work/narrowed" 65521 | cmp - "$work/narrowed.txt"
-    $c -std=c99 $strict $warnings tests/advances.c "$archive" -o "$work/advances"
-    run "$work/advances" "$work/cases"
-    fails "$work/advances" /dev/null
 done
 
 # If valgrind is installed, a trace of what is loaded and stored: what a call writes may be

@@ -316,9 +316,9 @@ fn hvar_at_the_limits() -> Vec<u8> {
     table
 }
 
-/// A font at the limits: each count and offset has more than 15 bits, or as many as its format, or
-/// `c/examples/advance.c`, allows. Glyph `n` of 65,535 has the advance `n`, up to the last of the
-/// metrics, and the delta `n / 4`.
+/// A font at the limits: each count and offset has more than 15 bits, or as many as its format
+/// allows. Glyph `n` of 65,535 has the advance `n`, up to the last of the metrics, and the delta
+/// `n / 4`.
 pub fn at_the_limits() -> Vec<u8> {
     let metrics: Vec<u16> = (0..MANY).flat_map(|n| [n, 0]).collect();
     let os2 = table(78, &[(4, &[40_000])]);
