@@ -1,5 +1,5 @@
-"""The gate: `.ci/run`, over stand-ins of what it calls, fails if a call fails or a tool is missing,
-and names what it leaves out."""
+"""The gate, `.ci/run` with `make check`, over stand-ins of what it calls, fails if a call fails or a
+tool is missing, and names what it leaves out."""
 
 import pathlib
 import re
@@ -16,11 +16,12 @@ BUILT = (
     "c/check tools/verdicts tools/goals tests/workspaces compare/fontations/copy "
     "crates/rows/out/rows_tests crates/fontval/out/fontval"
 )
-TOOLS, TOOLS_FOR_C = (
-    found.split() for found in re.findall(r"\ntools\w*=\((.*)\)", (ROOT / ".ci/run").read_text())
-)
+TOOLS = re.findall(r"\nfor tool in (.*?);", (ROOT / ".ci/run").read_text())[0].split()
+TOOLS_FOR_C = "c++ pkg-config nm readelf ldd".split()
 # What the gate and its stand-ins call of the system.
-SYSTEM = "bash sh env basename cat cmp cp dirname grep mktemp paste rm sed tail tee wc"
+SYSTEM = (
+    "bash sh env basename cat cmp dirname git grep make mktemp nproc paste rm sed sort tail tee wc"
+)
 
 # Faults, beside a call that fails, with which the gate fails, and what others leave out.
 FAULTS = (
@@ -28,9 +29,12 @@ FAULTS = (
 ).split(",")
 FETCH = "cargo fetch --quiet --manifest-path compare/Cargo.toml"
 LEFT_OUT = {"crate": "nothing", "--anew": "nothing", "freetype": "FreeType"}
-LEFT_OUT["rustc"] = "the comparison of MIR, which needs rustc 1.95"
-LEFT_OUT["python3 -c import z3"] = "the second proof, which needs python3-z3"
-LEFT_OUT[FETCH] = "the comparison with font-types, which cargo cannot fetch"
+OF_RUSTC = "{0}, which needs rustc-1.95"
+LEFT_OUT["rustc"] = "; ".join(map(OF_RUSTC.format, ("mir", "smt", "smt-checked")))
+LEFT_OUT[
+    "python3 -c import z3"
+] = "smt, which needs python3-z3; smt-checked, which needs python3-z3"
+LEFT_OUT[FETCH] = "compare, which needs font-types, which cargo cannot fetch"
 
 # It logs its call, and fails if `$FAIL` is its call. What `rt ci` builds asks for one allocation.
 STAND_IN = r"""#!/bin/sh
@@ -72,7 +76,7 @@ esac
 class Gate(unittest.TestCase):
     def setUp(self) -> None:
         self.folder = pathlib.Path(self.enterContext(tempfile.TemporaryDirectory()))
-        for path in f".ci/run {STORED} {MEMORY} {VERSION}".split():
+        for path in f".ci/run Makefile {STORED} {MEMORY} {VERSION}".split():
             text = (ROOT / path).read_text()
             self.put(path, text.replace("/usr/bin/python3", "bin/python3"))
         for path in BUILT.split() + [f"bin/{name}" for name in TOOLS + TOOLS_FOR_C]:
@@ -107,9 +111,9 @@ class Gate(unittest.TestCase):
         self.assertEqual(self.run_gate(), "nothing")
         calls = (self.folder / "log").read_text().splitlines()
         self.assertFalse((self.folder / "crates/font_types/out/rlib/old").exists())
-        steps = {call for call in calls if not call.startswith(("font", "rows"))}
+        steps = {call for call in calls if not call.startswith(("font", "rows", "rustc --v"))}
         # A step that is lost or added changes this number.
-        self.assertEqual(len(steps), 30)
+        self.assertEqual(len(steps), 28)
         # A step that checks nothing would not fail.
         needed = {"cargo clippy": " -D warnings", "cargo fmt": " --check "}
         needed["python3 -B"] = " -p *.py"
@@ -127,7 +131,7 @@ class Gate(unittest.TestCase):
     def test_missing_tools(self) -> None:
         for tool in TOOLS + TOOLS_FOR_C:
             path = self.folder / "bin" / tool
-            left_out = f"the library for C, which needs {tool}" if tool in TOOLS_FOR_C else None
+            left_out = f"c, which needs {tool}" if tool in TOOLS_FOR_C else None
             path.rename(self.folder / "kept")
             self.assertEqual(self.run_gate(), left_out, tool)
             (self.folder / "kept").rename(path)

@@ -1,0 +1,83 @@
+# `make check` checks all that the tools on this machine can check, several steps at a time, and
+# says at the end what it left out and which tool that needs. `make NAME` runs one step. With Rattle's
+# kit, `.ci/run` also proves everything.
+MAKEFLAGS += --no-print-directory
+.ONESHELL:
+SHELL := bash
+.SHELLFLAGS := -Eeuo pipefail -c
+export CARGO_TARGET_DIR ?= $(CURDIR)/target
+PYTHON := $(shell for it in python3 /usr/bin/python3; do $$it -c 'import z3' 2>/dev/null && echo $$it && exit; done)
+RUSTC := $(shell sed -n 's/^RUSTC = "\(.*\)"$$/\1/p' tools/mir/__main__.py)
+IS_RUSTC := $(findstring rustc $(RUSTC).,$(shell rustc --version 2>&1))
+# The gate compares later, with what it proves.
+MIR := python3 tools/mir
+FETCHED := $(if $(FONT_TYPES_DIR),--offline --config 'patch.crates-io.font-types.path="$(FONT_TYPES_DIR)"')
+
+STEPS := rust pages lints workspaces fontations tools smt smt-checked mir c compare
+.PHONY: check $(STEPS)
+
+check:
+	@log=$$(mktemp); trap 'rm "$$log"' EXIT
+	status=0; $(MAKE) -kO -j"$$(nproc)" $(STEPS) 2>&1 | tee "$$log" || status=1
+	sed -n 's/^left out: //p' "$$log" | sort -u | paste -sd ';' | sed 's/;/; /g; s/^$$/nothing/; s/^/left out: /'
+	exit $$status
+
+# Ends a step if a tool is missing, and says so.
+with = @missing=$$(for it in $(1); do command -v $$it >/dev/null || echo $$it; done | paste -sd ' ')
+with += ; [[ -z $$missing ]] || { echo "left out: $@, which needs $$missing"; exit 0; }
+
+rust:
+	$(call with,cargo)
+	cargo test --quiet
+	cargo test --quiet --release --test program --test original --test preconditions
+	cargo test --quiet --manifest-path variations/Cargo.toml
+
+pages:
+	$(call with,cargo rustdoc)
+	export RUSTDOCFLAGS=-Dwarnings
+	for it in . variations; do cargo doc --quiet --no-deps --manifest-path $$it/Cargo.toml; done
+	cargo build --quiet
+	rustdoc --edition=2024 --test README.md -L "$$CARGO_TARGET_DIR/debug/deps" \
+		--extern font_types_proved="$$CARGO_TARGET_DIR/debug/libfont_types_proved.rlib"
+
+lints:
+	$(call with,cargo cargo-clippy rustfmt)
+	for it in . variations; do
+		cargo clippy --quiet --all-targets --manifest-path $$it/Cargo.toml -- -D warnings
+	done
+	for it in . c compare variations; do cargo fmt --check --manifest-path $$it/Cargo.toml; done
+
+workspaces:
+	$(call with,cargo git)
+	tests/workspaces
+
+# A copy of the package under the name of font-types, with what readers of fonts need, compiles.
+fontations:
+	$(call with,cargo python3)
+	compare/fontations/copy "$$CARGO_TARGET_DIR/copy"
+	RUSTFLAGS=-Awarnings cargo build --quiet --offline --manifest-path "$$CARGO_TARGET_DIR/copy/Cargo.toml" \
+		--config 'patch.crates-io.bytemuck.path="compare/fontations/bytemuck"'
+
+tools:
+	$(call with,cargo python3 rustfmt)
+	python3 -B -m unittest discover -q tools/tests -p '*.py' 2>&1 | tee -a /dev/stderr |
+		grep "^Ran $$(cat tools/tests/*.py | grep -c '^    def test_') tests in" >/dev/null
+
+# What these two print has a line for each function, which is left out here.
+smt smt-checked:
+	$(call with,$(if $(PYTHON),,python3-z3) $(if $(IS_RUSTC),,rustc-$(RUSTC)))
+	$(PYTHON) tools/smt $(filter --checked,$(@:smt%=-%)) | sed '/ proved$$/d'
+
+mir:
+	$(call with,python3 $(if $(IS_RUSTC),,rustc-$(RUSTC)))
+	$(MIR)
+
+c:
+	$(call with,cargo make cc c++ pkg-config nm readelf ldd)
+	c/check | tee -a /dev/stderr | grep -x 'the library for C: all calls are right' >/dev/null
+
+compare:
+	$(call with,cargo)
+	cargo fetch --quiet --manifest-path compare/Cargo.toml $(FETCHED) ||
+		{ echo "left out: compare, which needs font-types, which cargo cannot fetch"; exit 0; }
+	cargo test --quiet --release --manifest-path compare/Cargo.toml $(FETCHED)
