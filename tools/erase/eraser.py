@@ -43,7 +43,7 @@ from widths import MARKS
 # Functions of the library that are `const` in Rust. A `const fn` of Rattle may not call `split_at`,
 # `is_empty` or `unwrap`, which that of Rust may.
 CONST = (
-    "after_point from_decimal from_decimal_bytes half_units long_units "
+    "after_point from_decimal from_decimal_bytes half_units "
     "nearest_raw read_bits_16 read_bits_32 read_bits_64 read_decimal read_decimal_bytes"
 ).split()
 

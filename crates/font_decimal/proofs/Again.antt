@@ -14,7 +14,7 @@ use Rattle.font_decimal.specs.{Grammar.fraction_text, Grammar.Tidy, Near.signed,
 use Rattle.font_decimal.proofs.Fewest.{abs_diff_times, fewest_is, within_half, nearest_reads_back}
 use Rattle.font_decimal.proofs.Near.{near_to, next_product, signed_times}
 use Rattle.font_decimal.proofs.Printed.{shown_numeral, whole_fits}
-use Rattle.font_decimal.proofs.{Digits.after_is, Digits.digits_value-append, Powers.ten_pos, Texts.decimal_unique}
+use Rattle.font_decimal.proofs.{Digits.after_is, Digits.digits_value-append, Units.ten_pos, Texts.decimal_unique}
 
 -- the digits after the point, by the number of all digits
 last_digits_are : (w : ℕ) (e : List ℕ) → AllDigits 10 e

@@ -1,10 +1,8 @@
 -- The number of digits that are joined or split.
-use Rattle.std.proofs.Common.{◌≡◌, ℕ, zero, suc, ◌+◌, ◌-◌, ◌*◌, ◌^◌, ◌<◌, ◌≤◌, List, [], ◌∷◌, ◌++◌, length, take, drop}
-use Rattle.std.proofs.Common.{refl, ◌∙◌, arith, rules, get_or, true, pow-add, length-take, pow-suc}
-use Rattle.std.proofs.Common.{mul-lt-mul_of_pos_right}
-use Rattle.std.proofs.lemmas.Int.Digits.{digits_value-lt, digits_value_more}
-use Rattle.std.proofs.lemmas.Str.Parse.{IsNumeralModel, numerals_by_value, tells_digits, digits_value_short}
-use Rattle.std.proofs.{Math.Nat.one-le-pow, lemmas.Str.digit_value_digit}
+use Rattle.std.proofs.Common.{◌≡◌, ℕ, zero, suc, ◌+◌, ◌-◌, ◌*◌, ◌^◌, ◌<◌, List, [], ◌∷◌, ◌++◌, length, take, drop, refl}
+use Rattle.std.proofs.Common.{◌∙◌, arith, rules, get_or, true, pow-suc}
+use Rattle.std.proofs.lemmas.Str.Parse.{IsNumeralModel, numerals_by_value}
+use Rattle.std.proofs.{lemmas.Int.Digits.digits_value_more, lemmas.Str.digit_value_digit}
 use Rattle.std.specs.Char.{digit_value, is_ascii_digit, IsAsciiDigit}
 use Rattle.std.specs.{Str.Parse.digits_value, Str.Parse.digits_value_after, Str.Parse.AllDigits, List.list_all}
 
@@ -45,16 +43,3 @@ by_test = numerals_by_value _ (search rules)
 pub one_digit_more : (xs : List ℕ) (i : ℕ) → i < length xs → IsAsciiDigit (get_or xs i 0)
     → digits_value 10 (take (i + 1) xs) ≡ digits_value 10 (take i xs) * 10 + (get_or xs i 0 - 48)
 one_digit_more xs i low ascii = omega (arith, digits_value_more 10 xs i low, digit_value_digit (get_or xs i 0) ascii)
-
--- at most 18 digits are a number below 10^18
-pub few_digits : (xs : List ℕ) (i : ℕ) → AllDigits 10 (take i xs) → i ≤ 18 → digits_value 10 (take i xs) < 10 ^ 18
-few_digits xs i h few =
-    digits_value_short (numerals_by_value _ tells_digits) (take i xs) 18 h (omega (arith, length-take i xs))
-
--- at most n digits, with zeros behind them, are a number below 10^n
-pub padded_below : (n : ℕ) (digits : List ℕ) → AllDigits 10 digits → length digits ≤ n
-    → digits_value 10 digits * 10 ^ (n - length digits) < 10 ^ n
-padded_below n digits all few =
-    let whole : length digits + (n - length digits) ≡ n = omega arith in
-    let split = rw whole at (pow-add 10 (length digits) (n - length digits)) in
-    rw split (mul-lt-mul_of_pos_right (digits_value-lt 10 _ all) (one-le-pow (n - length digits) 10 (omega arith)))

@@ -12,5 +12,5 @@ mod Rounding
 mod Parts
 mod Fewest
 mod Remainder
-mod Powers
+mod Units
 mod Rows

@@ -5,7 +5,7 @@ use Rattle.std.proofs.lemmas.Int.{ints, by_lt_z}
 use Rattle.font_decimal.specs.Reading.{Rounds, Parses, IsAtMost}
 use Rattle.font_decimal.specs.{Grammar.Decimal, Shortest.shortest_text, declared.reader.DecimalFault.DecimalFault}
 use Rattle.font_decimal.proofs.Integers.{swap_factors, times_monotone}
-use Rattle.font_decimal.proofs.{Printed.shortest_is, Near.near_monotone, Texts.decimal_unique, Powers.ten_pos}
+use Rattle.font_decimal.proofs.{Printed.shortest_is, Near.near_monotone, Texts.decimal_unique, Units.ten_pos}
 
 -- of two texts, the one of greater decimal value never parses as the smaller number
 pub rounds_in_order : {s t : List ℕ} {f : ℕ} {a b : ℤ} → IsAtMost s t → Rounds s f a → Rounds t f b → a ≤ℤ b

@@ -18,7 +18,7 @@ use Rattle.font_decimal.specs.{Reading.Parses, Padding.unsigned_body, declared.r
 use Rattle.font_decimal.proofs.Fewest.{fewest_is, within_half, none_fewer, unit_is_below, rounded_at, IsFewest}
 use Rattle.font_decimal.proofs.Fewest.{zero_drops}
 use Rattle.font_decimal.proofs.{Near.near_from, Near.sign_and_magnitude, Near.signed_times, Digits.after_is}
-use Rattle.font_decimal.proofs.{Digits.digits_value-append, Powers.ten_pos, Readings.rounds_unique}
+use Rattle.font_decimal.proofs.{Digits.digits_value-append, Units.ten_pos, Readings.rounds_unique}
 use Rattle.font_decimal.proofs.{Readings.reading_unique, Texts.same_parts, Texts.decimal_unique, Texts.decimal_of}
 
 pub last_length : (p n : ℕ) → length (last_digits p n) ≡ p

@@ -8,7 +8,7 @@ use Rattle.font_decimal.specs.declared.reader.DecimalFault.TheVariants.{Syntax, 
 use Rattle.font_decimal.specs.{Near.signed, Grammar.HasParts, declared.reader.DecimalFault.DecimalFault}
 use Rattle.font_decimal.proofs.Near.{near_from, near_unique, signed_times}
 use Rattle.font_decimal.proofs.Texts.{decimal_of, decimal_unique}
-use Rattle.font_decimal.proofs.{Digits.digits_value-append, Rounding.half_units_halved, Powers.ten_pos}
+use Rattle.font_decimal.proofs.{Digits.digits_value-append, Rounding.half_units_halved, Units.ten_pos}
 
 -- a text rounds to one number
 pub rounds_unique : (text : List ℕ) (f : ℕ) (b c : ℤ) → Rounds text f b → Rounds text f c → b ≡ c

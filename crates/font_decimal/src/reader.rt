@@ -11,37 +11,6 @@ ghost use Rattle.font_decimal.specs.{Near.signed, Grammar.HasParts, Grammar.IsNo
 use crate::grammar::{after_point, are_digits, split_sign};
 use thiserror::Error;
 
-// Powers of five.
-const FIVE_13: u64 = 1_220_703_125;
-
-const FIVE_18: u64 = 3_814_697_265_625;
-
-const FIVE_19: u64 = 19_073_486_328_125;
-
-// The powers of ten.
-const TENS: [u64; 20] = [
-    1,
-    10,
-    100,
-    1_000,
-    10_000,
-    100_000,
-    1_000_000,
-    10_000_000,
-    100_000_000,
-    1_000_000_000,
-    10_000_000_000,
-    100_000_000_000,
-    1_000_000_000_000,
-    10_000_000_000_000,
-    100_000_000_000_000,
-    1_000_000_000_000_000,
-    10_000_000_000_000_000,
-    100_000_000_000_000_000,
-    1_000_000_000_000_000_000,
-    10_000_000_000_000_000_000,
-];
-
 /// Why a text was not parsed.
 ///
 /// ```
@@ -170,7 +139,8 @@ const fn whole_digits(text: &[u8], too_large: u64) -> (u64, usize)
 }
 
 // Returns a fraction in half units of `1 / 2^f`, rounded down. A half unit has `f + 1` decimal
-// places, so later digits do not count.
+// places, so later digits do not count. From the last digit to the first: a tenth, rounded down, of
+// a number rounded down is the tenth of the number, rounded down.
 #[inline(always)]
 fn half_units(fraction: &[u8], f: u32) -> Option<u64>
     requires { f ≤ 30 }
@@ -187,61 +157,17 @@ fn half_units(fraction: &[u8], f: u32) -> Option<u64>
     if !are_digits(late) {
         return None;
     }
-    // 19 digits fit in 64 bits.
-    if f <= 18 {
-        let Some(numeral) = decimal_places(kept, 19) else {
-            return None;
-        };
-        Some((numeral / FIVE_19) >> (18 - f))
-    } else {
-        let Some(units) = long_units(kept) else {
-            return None;
-        };
-        Some(units >> (30 - f))
-    }
-}
-
-// Returns a fraction of up to 31 digits in units of `1 / 2^31`, rounded down.
-#[inline(always)]
-fn long_units(fraction: &[u8]) -> Option<u64>
-    requires { length fraction.now ≤ 31 }
-    ensures { MatchOption result (¬ (AllDigits 10 fraction.now))
-        (λ n. HasUnits 31 fraction.now n) }
-{
-    let places = if fraction.len() < 13 {
-        fraction.len()
-    } else {
-        13
-    };
-    let (front, back) = fraction.split_at(places);
-    let Some(high) = decimal_places(front, 13) else {
-        return None;
-    };
-    let Some(low) = decimal_places(back, 18) else {
-        return None;
-    };
-    Some(((high << 18) + low / FIVE_18) / FIVE_13)
-}
-
-// Returns digits as an integer, with zeros behind them up to `places` digits.
-#[inline(always)]
-const fn decimal_places(text: &[u8], places: usize) -> Option<u64>
-    requires few { length text.now ≤ places }
-    requires most { places ≤ 19 }
-    ensures { MatchOption result (¬ (AllDigits 10 text.now)) (λ n. AllDigits 10 text.now
-        × (n ≡ digits_value 10 text.now * 10 ^ (places - length text.now))) }
-{
-    let mut numeral = 0;
-    let mut place = 0;
-    while place < text.len() {
-        let digit = text[place];
+    let mut units = 0;
+    let mut place = kept.len();
+    while place > 0 {
+        place -= 1;
+        let digit = kept[place];
         if !digit.is_ascii_digit() {
             return None;
         }
-        numeral = numeral * 10 + (digit - b'0') as u64;
-        place += 1;
+        units = ((((digit - b'0') as u64) << (f + 1)) + units) / 10;
     }
-    Some(numeral * TENS[places - text.len()])
+    Some(units)
 }
 
 // Returns the signed raw value, or `None` if it is out of range.

@@ -1,6 +1,10 @@
-use Rattle.std.proofs.Common.{◌≡◌, ◌+◌, ◌-◌, ◌/◌, ◌^◌, arith, sym, ◌∙◌, true≢false, min, length}
-use Rattle.font_decimal.specs.Reading.{HasUnits}
-use Rattle.font_decimal.proofs.{Digits.digits_parts, Digits.by_test, Powers.kept_units, Powers.padded_units}
+use Rattle.std.proofs.Common.{◌≡◌, ℕ, ◌≤◌, ◌+◌, ◌-◌, ◌*◌, ◌%◌, ◌^◌, arith, sym, ◌∙◌, true≢false, min, length, drop}
+use Rattle.std.proofs.Common.{get_or, mod-eq_of_lt}
+use Rattle.std.proofs.{lemmas.List.drop_more, lemmas.Str.digit_value_digit, lemmas.Str.Parse.digit_at}
+use Rattle.std.proofs.Math.Nat.{pow-le-pow_right, mul-le-mul}
+use Rattle.std.specs.{Char.digit_value, Str.Parse.AllDigits}
+use Rattle.font_decimal.proofs.{Digits.digits_parts, Digits.by_test, Units.units_more, Units.units_cut}
+use Rattle.font_decimal.proofs.{Units.units_below, Units.at_cut}
 use Rattle.font_decimal.proofs.reader.half_units.Goals as goal
 use Rattle.font_decimal.proofs.reader.half_units.Goals.{then-fraction-most, else-fraction-most}
 
@@ -9,33 +13,49 @@ returns-then-not-are_digits c = λ all. true≢false
     (sym (by_test.from c.split_at.result.1.now (rw c.split_at.ensures.back (digits_parts _ _ all).1))
     ∙ sym c.if-not-are_digits.ensures)
 
-pub returns-in_default : goal.returns-in_default
-returns-in_default c = λ all. c.in_default.ensures (rw c.split_at.ensures.front (digits_parts _ _ all).0)
+pub returns-then-not-is_ascii_digit : goal.returns-then-not-is_ascii_digit
+returns-then-not-is_ascii_digit c = λ all.
+    let kept : AllDigits 10 c.split_at.result.0.now = rw c.split_at.ensures.front (digits_parts _ _ all).0 in
+    omega (arith, c.if-not-is_ascii_digit.ensures.cases, digit_at _ (c.loop-place.place - 1) kept (omega arith))
 
-pub returns-in_default-long_units : goal.returns-in_default-long_units
-returns-in_default-long_units c = λ all.
-    c.in_default-long_units.ensures (rw c.split_at.ensures.front (digits_parts _ _ all).0)
+-- the product by the digit
+product_fits : (digit f : ℕ) → digit ≤ 9 → f ≤ 30 → digit * 2 ^ (f + 1) ≤ 9 * 2 ^ 31
+product_fits digit f few most =
+    mul-le-mul few (pow-le-pow_right {n = 2} (omega arith) {i = f + 1} {j = 31} (omega (arith, most)))
 
-pub returns-in-Some : goal.returns-in-Some
-returns-in-Some c =
+pub overflow_add-units-in-loop-place : goal.overflow_add-units-in-loop-place
+overflow_add-units-in-loop-place c =
+    let below = units_below (c.args.f + 1) _ c.loop-place.invariant.found in
+    let digit = get_or c.split_at.result.0.now (c.loop-place.place - 1) 0 - 48 in
+    let most : c.args.f ≤ 30 = omega (arith, c.requires) in
+    let fits = product_fits digit c.args.f (omega (arith, c.if-not-is_ascii_digit.ensures.cases)) most in
+    omega (arith, below, fits, product_fits 1 c.args.f (omega arith) most)
+
+pub loop-place-preserved : goal.loop-place-preserved
+loop-place-preserved c =
+    let l = c.loop-place in
+    let kept = c.split_at.result.0.now in
+    let at = l.place - 1 in
+    let byte = get_or kept at 0 in
+    let digit = c.if-not-is_ascii_digit.ensures.cases in
+    let next : at + 1 ≡ l.place = omega arith in
+    let value : digit_value byte ≡ byte - 48 = omega (arith, digit_value_digit byte digit) in
+    let shifted : (byte - 48) * 2 ^ (c.args.f + 1) % 2 ^ 64 ≡ (byte - 48) * 2 ^ (c.args.f + 1) =
+    mod-eq_of_lt (omega (arith, product_fits (byte - 48) c.args.f (omega (arith, digit)) (omega (arith, c.requires)))) in
+    record {
+      found = rw (shifted, drop_more kept at 0 (omega (arith, l.invariant.within)), next)
+          (units_more byte (byte - 48) (drop l.place kept) value (omega (arith, digit)) l.invariant.found);
+      within = omega (arith, l.invariant.within);
+    }
+
+pub returns : goal.returns
+returns c =
+    let split = c.split_at.ensures in
     let is : c.if-fraction-most.places ≡ min (length c.args.fraction.now) (c.args.f + 1)
     = elim c.if-fraction-most.branch [
       | then-fraction-most w ↦ omega arith
       | else-fraction-most w ↦ omega arith
     ] in
-    let kept = c.in-Some.ensures in
-    let units : HasUnits 19 c.split_at.result.0.now (c.in-Some.numeral / 5 ^ 19) =
-    rw kept.1 (padded_units 19 _ kept.0 (omega arith)) in
-    kept_units (c.args.f + 1) (18 - c.args.f) 19 _ _ (omega (arith, c.if-f-le18.true)) is
-    c.split_at.ensures.front c.split_at.ensures.back units (by_test.to _ (sym c.if-not-are_digits.ensures))
-
-pub returns-in-Some-long_units : goal.returns-in-Some-long_units
-returns-in-Some-long_units c =
-    let is : c.if-fraction-most.places ≡ min (length c.args.fraction.now) (c.args.f + 1)
-    = elim c.if-fraction-most.branch [
-      | then-fraction-most w ↦ omega arith
-      | else-fraction-most w ↦ omega arith
-    ] in
-    kept_units (c.args.f + 1) (30 - c.args.f) 31 _ _ (omega (arith, c.requires)) is
-    c.split_at.ensures.front c.split_at.ensures.back c.in-Some-long_units.ensures
-    (by_test.to _ (sym c.if-not-are_digits.ensures))
+    let first : c.loop-place.place ≡ 0 = omega (arith, c.loop-place-test.false) in
+    rw split.by_index.0 (units_cut _ c.split_at.result.1.now (rw first at c.loop-place.invariant.found)
+    (by_test.to _ (sym c.if-not-are_digits.ensures)) (at_cut (c.args.f + 1) _ _ is split.front split.back))

@@ -2,7 +2,7 @@ use Rattle.std.proofs.Common.{◌≡◌, ◌+◌, ◌-◌, ◌^◌, ◌≤◌, m
 use Rattle.std.proofs.{Math.Nat.pow-le-pow_right, lemmas.List.take_rest, lemmas.Nat.one_shl}
 use Rattle.std.specs.Str.Parse.{digits_value}
 use Rattle.font_decimal.proofs.{Texts.same_point, Parts.fraction_found, Parts.parts_found, Rounding.units_fit}
-use Rattle.font_decimal.proofs.{Rounding.UnitsFit, Rounding.units_capped, Powers.units_below, Readings.rounds_by}
+use Rattle.font_decimal.proofs.{Rounding.UnitsFit, Rounding.units_capped, Units.units_below, Readings.rounds_by}
 use Rattle.font_decimal.proofs.reader.nearest_raw.Goals as goal
 
 pub whole_digits-whole-requires : goal.whole_digits-whole-requires
