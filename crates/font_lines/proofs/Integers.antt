@@ -1,44 +1,20 @@
--- The digits of integers in a buffer.
-use Rattle.std.proofs.Common.{◌≡◌, ℕ, ◌/◌, ◌%◌, ◌+◌, ◌<◌, ◌≤◌, [], ◌∷◌, ◌++◌, ◌^◌, ℤ, pos, negsuc, length}
-use Rattle.std.proofs.Common.{length-append, arith, decimal, length-drop, append_assoc, unsigned_abs, take_all, ◌∙◌}
-use Rattle.std.proofs.lemmas.Fmt.{decimal_digit, decimal_step, length-decimal-le}
-use Rattle.std.proofs.lemmas.List.{drop-set}
+-- Integers, as the shortest decimals without fraction bits, and in two parts.
+use Rattle.std.proofs.Common.{◌≡◌, ℕ, ◌/◌, ◌%◌, ◌+◌, ◌<◌, ◌≤◌, [], ◌∷◌, ◌++◌, ◌^◌, ℤ, pos, negsuc, arith, ap, ◌∙◌}
+use Rattle.std.proofs.Common.{decimal, append-nil, append_assoc, unsigned_abs}
+use Rattle.std.proofs.lemmas.Fmt.{decimal_digit, decimal_step}
 use Rattle.std.specs.{Fmt.sign_text, Fmt.signed_decimal, Int.is_negative}
-
--- the digits of a number from the last two on
-pub decimal_pair : (n : ℕ) → 100 ≤ n → n < 2 ^ 64
-    → decimal n ≡ decimal (n / 100) ++ ((48 + n % 100 / 10) ∷ ((48 + n % 100 % 10) ∷ []))
-decimal_pair n large small =
-    let front : n / 10 / 10 ≡ n / 100 = omega arith in
-    let tens : n / 10 % 10 ≡ n % 100 / 10 = omega arith in
-    let ones : n % 10 ≡ n % 100 % 10 = omega arith in
-    decimal_step n (omega arith) small
-    ∙ rw (decimal_step (n / 10) (omega arith) (omega arith), front, tens, ones, append_assoc)
-
-pub pair_length : (n : ℕ) → 100 ≤ n → n < 2 ^ 64 → length (decimal n) ≡ length (decimal (n / 100)) + 2
-pair_length n large small = rw (decimal_pair n large small) (omega (arith, length-append {A = ℕ}))
-
-pub two_digits : (n : ℕ) → 10 ≤ n → n < 100 → decimal n ≡ (48 + n / 10) ∷ ((48 + n % 10) ∷ [])
-two_digits n large small = decimal_step n large (omega arith) ∙ rw (decimal_digit (n / 10) (omega arith))
-
--- a number of 64 bits has at most 20 digits
-pub twenty_digits : (n : ℕ) → n < 2 ^ 64 → length (decimal n) ≤ 20
-twenty_digits n small = length-decimal-le 20 n (omega arith) (omega arith) small
+use Rattle.font_types.specs.Shortest.{shortest_text, fewest_places, nearest_numeral}
 
 -- a sign and a magnitude are the integer
 pub signed_is : (z : ℤ) → sign_text (is_negative z) ++ decimal (unsigned_abs z) ≡ signed_decimal z
 signed_is (pos n) = grind arith
 signed_is (negsuc n) = grind arith
 
-pub ruleset integers = (
-  length-drop,
-  drop-set,
-  take_all,
-  decimal_digit,
-  pair_length,
-  two_digits,
-  decimal_pair,
-  twenty_digits,
-  signed_is,
-  append_assoc,
-)
+-- without fraction bits, the nearest numeral is the number, and it has no places
+pub shortest_integer : (z : ℤ) → shortest_text z 0 ≡ signed_decimal z
+unfolding shortest_text fewest_places
+shortest_integer z =
+    let whole : nearest_numeral (unsigned_abs z) 0 0 / 1 ≡ unsigned_abs z = omega arith in
+    rw (whole, append-nil) (signed_is z)
+
+pub ruleset integers = (signed_is, shortest_integer, decimal_digit, decimal_step, append_assoc, append-nil)
