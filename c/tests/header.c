@@ -128,6 +128,13 @@ static void move(void *to, const void *from, size_t count) {
         __CPROVER_assume(((uint8_t *)to)[moved] == byte);
 }
 #define __builtin_memmove move
+
+/* memcpy, of the bytes of an integer. */
+static void copy(void *to, const void *from, size_t count) {
+    for (size_t i = 0; i < count; i++)
+        ((uint8_t *)to)[i] = ((const uint8_t *)from)[i];
+}
+#define __builtin_memcpy copy
 #endif
 
 #include "font_types.h"

@@ -87,7 +87,7 @@ sed -e 's|(view.length - offset) / size|(size_t)quotient(view.length - offset, s
     include/font_types.h >"$work/called/font_types.h"
 [[ $(diff include/font_types.h "$work/called/font_types.h" | grep -c '^>' || true) == 6 ]]
 asks() {
-    cbmc --function "$1" "-I$work/called" tests/header.c --unwinding-assertions --unwind 9 \
+    cbmc --function "$1" "-I${called:-$work/called}" tests/header.c --unwinding-assertions --unwind 9 \
         --unwindset strcmp.0:50 --bounds-check --pointer-check --pointer-overflow-check \
         --pointer-primitive-check --div-by-zero-check --signed-overflow-check \
         --undefined-shift-check "${@:2}"
@@ -108,6 +108,12 @@ if [[ -z ${BUILT-} ]] && command -v cbmc >/dev/null; then
     export work
     export -f asks proves
     "$work/header" names | xargs -P "$(nproc)" -I{} bash -c 'proves {}'
+    # So is each field of bytes and shifts, which constant expressions and other compilers read.
+    mkdir "$work/shifts"
+    sed '/^    FTY_API_LOAD(/d' "$work/called/font_types.h" >"$work/shifts/font_types.h"
+    for name in {read_,}{u16,i16,u24,i24,u32,i32,i64}; do
+        called=$work/shifts asks "$name" >"$work/$name.shifts"
+    done
     # Without a part of memmove in header.c, one statement fails, which is the part's.
     for wrong in '2 r_ok' '3 w_ok' '4 copy' '5 copy'; do
         fails asks write_bytes "-DWRONG=${wrong% *}"
