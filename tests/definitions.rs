@@ -25,10 +25,11 @@ macro_rules! one_of_each_width {
             let of = |n: i128| $bits::try_from(n).ok().map($Type::from_bits);
             for (n, x) in integers($bits::BITS).map(|n| (n, $Type::from_bits(n as $bits))) {
                 let rounded = (n + one / 2).div_euclid(one) * one;
-                let found = [x.checked_round(), x.checked_abs(), x.checked_neg()];
-                assert_eq!(found, [rounded, n.abs(), -n].map(of), "{n}");
-                let wrapped = [rounded, n.abs(), -n].map(|n| n as $bits);
-                assert_eq!([x.round(), x.abs(), -x].map($Type::to_bits), wrapped, "{n}");
+                let ceiling = -(-n).div_euclid(one) * one;
+                let found = [x.checked_round(), x.checked_ceil(), x.checked_abs(), x.checked_neg()];
+                assert_eq!(found, [rounded, ceiling, n.abs(), -n].map(of), "{n}");
+                let wrapped = [rounded, ceiling, n.abs(), -n].map(|n| n as $bits);
+                assert_eq!([x.round(), x.ceil(), x.abs(), -x].map($Type::to_bits), wrapped, "{n}");
                 for (m, y) in integers($bits::BITS).map(|m| (m, $Type::from_bits(m as $bits))) {
                     let right = [n + m, n - m].map(of);
                     assert_eq!([x.checked_add(y), x.checked_sub(y)], right, "{n}, {m}");

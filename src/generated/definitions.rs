@@ -1118,7 +1118,7 @@ pub mod font_fixed {
     /// The operations of fixed-point numbers, over their raw values. A w-bit number with f fraction bits is its raw value
     /// over 2^f (OpenType, data types: Fixed is 16.16, F2DOT14 is 2.14).
     ///
-    /// In the order of `crates/font_fixed/specs/Operations.antt`: [`WrapsTo`](mod@Operations::WrapsTo), [`wrapped_near`](mod@Operations::wrapped_near), [`IsWrappedNear`](mod@Operations::IsWrappedNear), [`narrowed`](mod@Operations::narrowed), [`IsNarrowed`](mod@Operations::IsNarrowed), [`nearest_whole`](mod@Operations::nearest_whole), [`IsNearestWhole`](mod@Operations::IsNearestWhole), [`fract_of`](mod@Operations::fract_of), [`floor_of`](mod@Operations::floor_of), [`IsFloor`](mod@Operations::IsFloor), [`IsFract`](mod@Operations::IsFract), [`least`](mod@Operations::least), [`greatest`](mod@Operations::greatest), [`ReadsBits`](mod@Operations::ReadsBits), [`IsTooFar`](mod@Operations::IsTooFar), [`ParsesBits`](mod@Operations::ParsesBits), [`clamp`](mod@Operations::clamp), [`differ_in_sign`](mod@Operations::differ_in_sign), [`IsProduct`](mod@Operations::IsProduct), [`IsMulDiv`](mod@Operations::IsMulDiv), [`IsQuotient`](mod@Operations::IsQuotient), [`rounded_mul_div`](mod@Operations::rounded_mul_div).
+    /// In the order of `crates/font_fixed/specs/Operations.antt`: [`WrapsTo`](mod@Operations::WrapsTo), [`wrapped_near`](mod@Operations::wrapped_near), [`IsWrappedNear`](mod@Operations::IsWrappedNear), [`narrowed`](mod@Operations::narrowed), [`IsNarrowed`](mod@Operations::IsNarrowed), [`nearest_whole`](mod@Operations::nearest_whole), [`IsNearestWhole`](mod@Operations::IsNearestWhole), [`fract_of`](mod@Operations::fract_of), [`floor_of`](mod@Operations::floor_of), [`IsFloor`](mod@Operations::IsFloor), [`ceiling_of`](mod@Operations::ceiling_of), [`IsCeiling`](mod@Operations::IsCeiling), [`IsWrappedCeiling`](mod@Operations::IsWrappedCeiling), [`IsFract`](mod@Operations::IsFract), [`least`](mod@Operations::least), [`greatest`](mod@Operations::greatest), [`ReadsBits`](mod@Operations::ReadsBits), [`IsTooFar`](mod@Operations::IsTooFar), [`ParsesBits`](mod@Operations::ParsesBits), [`clamp`](mod@Operations::clamp), [`differ_in_sign`](mod@Operations::differ_in_sign), [`IsProduct`](mod@Operations::IsProduct), [`IsMulDiv`](mod@Operations::IsMulDiv), [`IsQuotient`](mod@Operations::IsQuotient), [`rounded_mul_div`](mod@Operations::rounded_mul_div).
     pub mod Operations {
         use crate::definitions::font_base::Wrap::FitsBits;
         use crate::definitions::font_base::Wrap::half_range;
@@ -1232,6 +1232,39 @@ pub mod font_fixed {
         /// ```
         /// [`floor_of`]
         pub mod IsFloor {}
+
+        /// the raw value of the ceiling of b / 2^f
+        ///
+        /// ```text
+        /// abbrev ceiling_of : ℕ → ℤ → ℤ
+        /// ceiling_of f b = neg_ℤ (floor_of f (neg_ℤ b))
+        /// ```
+        /// [`floor_of`]
+        pub mod ceiling_of {}
+
+        /// r is the raw value of the ceiling of b / 2^f
+        ///
+        /// ```text
+        /// record IsCeiling (f : ℕ) (b r : ℤ) : Type 0 where
+        ///   whole : ℤ
+        ///   bits : r ≡ (whole *ℤ pos (2 ^ f))
+        ///   low : b ≤ℤ r
+        ///   high : r <ℤ (b +ℤ pos (2 ^ f))
+        ///   is : r ≡ ceiling_of f b
+        /// ```
+        /// [`ceiling_of`]
+        pub mod IsCeiling {}
+
+        /// r is the raw value of the ceiling of b / 2^f, wrapped to w bits
+        ///
+        /// ```text
+        /// record IsWrappedCeiling (w f : ℕ) (b r : ℤ) : Type 0 where
+        ///   ceiling : ℤ
+        ///   is_ceiling : IsCeiling f b ceiling
+        ///   wrapped : r ≡ wrap w ceiling
+        /// ```
+        /// [`IsCeiling`], [`wrap`]
+        pub mod IsWrappedCeiling {}
 
         /// r is the raw value of the fractional part of b / 2^f
         ///

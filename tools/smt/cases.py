@@ -81,6 +81,7 @@ def of_one(T: str, w: int, f: int) -> None:
     both(f"-{T}", "checked_neg", f"(-{x}).to_bits()", lambda n: -n)
     both(f"{T}::abs", "checked_abs", f"{x}.abs().to_bits()", absolute)
     both(f"{T}::floor", "", f"{x}.floor().to_bits()", lambda n: whole(n, f))
+    both(f"{T}::ceil", "checked_ceil", f"{x}.ceil().to_bits()", lambda n: -whole(-n, f))
     both(f"{T}::fract", "", f"{x}.fract().to_bits()", lambda n: n - whole(n, f))
     both(f"{T}::round", "checked_round", f"{x}.round().to_bits()", lambda n: up(n, f) * (1 << f))
     case(f"{T}::to_be_bytes", f"x: {i}", f"[{w // 8}]", f"{x}.to_be_bytes()",

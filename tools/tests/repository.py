@@ -40,8 +40,8 @@ COUNTS = [
     ("tests/", ".rs", "return;", 0),
     ("tests/", ".rs", "/*", 0),
     ("crates/", ".rt", "\nmod ", 111),
-    ("crates/", ".edit", "# clause: ", 269),
-    ("crates/", ".edit", "# control: ", 69),
+    ("crates/", ".edit", "# clause: ", 271),
+    ("crates/", ".edit", "# control: ", 71),
     ("crates/fontval/", "stdin", "\n", 213),
     ("c/tests/", ".sh", "\n", 376),
 ]

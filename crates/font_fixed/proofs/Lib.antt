@@ -9,6 +9,7 @@ pub mod NumberLaws
 pub mod Group
 pub mod Integral
 pub mod Calls
+pub mod Ceilings
 pub mod Small
 pub mod Rules
 pub mod FixedCalls

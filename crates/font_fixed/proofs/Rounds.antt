@@ -23,10 +23,10 @@ two_halves f many = omega (arith, halves f many)
 
 -- ---- w bits are w - f bits of integers and f of fraction
 
-whole : (w f : ℕ) → f ≤ w → 2 ^ w ≡ 2 ^ (w - f) * 2 ^ f
+pub whole : (w f : ℕ) → f ≤ w → 2 ^ w ≡ 2 ^ (w - f) * 2 ^ f
 whole w f few = let is : w ≡ (w - f) + f = omega (arith, few) in ap (λ n. 2 ^ n) is ∙ pow-add 2 (w - f) f
 
-top : (w f : ℕ) → f + 2 ≤ w → 2 ^ (w - 1) ≡ 2 ^ (w - f - 1) * 2 ^ f
+pub top : (w f : ℕ) → f + 2 ≤ w → 2 ^ (w - 1) ≡ 2 ^ (w - f - 1) * 2 ^ f
 top w f few = let is : w - 1 ≡ (w - f - 1) + f = omega (arith, few) in ap (λ n. 2 ^ n) is ∙ pow-add 2 (w - f - 1) f
 
 split_at : (w f : ℕ) → 6 ≤ f → f + 2 ≤ w → IsTrue (is_width_split w (w - f) (2 ^ f) (2 ^ f / 2))
@@ -34,10 +34,10 @@ split_at w f many few = grind (arith, nat_tests, halves, whole, top)
 
 -- ---- results of code with the step `1 << f` and the half step `1 << (f - 1)`; m is 2^w, a literal in goals
 
-step_below : (w : Width) (f : ℕ) → f + 2 ≤ bits w → 2 ^ f < 2 ^ hbits w
+pub step_below : (w : Width) (f : ℕ) → f + 2 ≤ bits w → 2 ^ f < 2 ^ hbits w
 step_below w f few = grind (arith, nat_tests, half_range-bits, two-pow-succ, pow_pos, pow-le-pow_right)
 
-step_is : (w : Width) (m f : ℕ) → m ≡ 2 ^ bits w → f + 2 ≤ bits w → to_z w (1 * 2 ^ f % m) ≡ pos (2 ^ f)
+pub step_is : (w : Width) (m f : ℕ) → m ≡ 2 ^ bits w → f + 2 ≤ bits w → to_z w (1 * 2 ^ f % m) ≡ pos (2 ^ f)
 step_is w m f is few = rw (is, one_shl f (bits w) (omega (arith, few))) (to_z_pos w (2 ^ f) (step_below w f few))
 
 half_is : (w : Width) (m f : ℕ) → m ≡ 2 ^ bits w → 6 ≤ f → f + 2 ≤ bits w
@@ -61,10 +61,10 @@ shr_rest : (f : ℕ) (x : ℤ) → (shr_z x (2 ^ f) *ℤ pos (2 ^ f)) ≡ floor_
 unfolding fract_of
 shr_rest f v1 = grind (arith, div-add-mod', mod-lt, pow_pos)
 
-shr_is_floor : (f : ℕ) (x : ℤ) → IsFloor f x (shr_z x (2 ^ f) *ℤ pos (2 ^ f))
+pub shr_is_floor : (f : ℕ) (x : ℤ) → IsFloor f x (shr_z x (2 ^ f) *ℤ pos (2 ^ f))
 shr_is_floor f x = grind (arith, nat_tests, shr_low, pow_pos, shr_high, shr_rest)
 
-floor_fits : (w : Width) (f : ℕ) (x r : ℤ) → f + 2 ≤ bits w → SFits w x → IsFloor f x r → SFits w r
+pub floor_fits : (w : Width) (f : ℕ) (x r : ℤ) → f + 2 ≤ bits w → SFits w x → IsFloor f x r → SFits w r
 floor_fits w f x r few fits floor =
     let least : ℤ = neg_ℤ (pos (2 ^ (bits w - f - 1))) in
     let split = top (bits w) f few in

@@ -64,6 +64,24 @@ pub record IsFloor (f : ℕ) (b r : ℤ) : Type 0 where
   pub high : b <ℤ (r +ℤ pos (2 ^ f))
   pub is : r ≡ floor_of f b
 
+-- the raw value of the ceiling of b / 2^f
+abbrev pub ceiling_of : ℕ → ℤ → ℤ
+ceiling_of f b = neg_ℤ (floor_of f (neg_ℤ b))
+
+-- r is the raw value of the ceiling of b / 2^f
+pub record IsCeiling (f : ℕ) (b r : ℤ) : Type 0 where
+  pub whole : ℤ
+  pub bits : r ≡ (whole *ℤ pos (2 ^ f))
+  pub low : b ≤ℤ r
+  pub high : r <ℤ (b +ℤ pos (2 ^ f))
+  pub is : r ≡ ceiling_of f b
+
+-- r is the raw value of the ceiling of b / 2^f, wrapped to w bits
+pub record IsWrappedCeiling (w f : ℕ) (b r : ℤ) : Type 0 where
+  pub ceiling : ℤ
+  pub is_ceiling : IsCeiling f b ceiling
+  pub wrapped : r ≡ wrap w ceiling
+
 -- r is the raw value of the fractional part of b / 2^f
 pub record IsFract (f : ℕ) (b r : ℤ) : Type 0 where
   pub floor : ℤ

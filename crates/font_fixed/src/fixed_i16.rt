@@ -8,7 +8,7 @@ ghost use Rattle.font_base.specs.{Wrap.FitsBits, Bytes.bytes_of};
 ghost use Rattle.font_decimal.specs.Padding.{padded_text, FillsFront};
 ghost use Rattle.font_decimal.specs.{Shortest.IsShortest, Shown.shown};
 ghost use Rattle.font_fixed.specs.Operations.{WrapsTo, IsNearestWhole, IsIntegral, IsFloor};
-ghost use Rattle.font_fixed.specs.Operations.{IsFract, clamp};
+ghost use Rattle.font_fixed.specs.Operations.{IsFract, IsCeiling, IsWrappedCeiling, ceiling_of, clamp};
 ghost use Rattle.font_fixed.specs.FixedI16.{bits_of, text_of};
 ghost use Rattle.font_fixed.specs.{Reading.ParsesFixedPoint, Rounding.rounded};
 ghost use Rattle.font_fixed.specs.{declared.fixed_i16.FixedI16.FixedI16, Longest.longest};
@@ -240,6 +240,26 @@ where
         ensures { IsFloor F (bits_of self.entry) (bits_of result) }
     {
         Self(floor_bits_16(self.0, F))
+    }
+
+    /// Returns the smallest integer greater than or equal to `self`; wraps: `MAX.ceil()` is `MIN`.
+    #[inline(always)]
+    pub const fn ceil(self) -> Self
+        ensures { IsWrappedCeiling 16 F (bits_of self.entry) (bits_of result) }
+    {
+        self.wrapping_add(Self((1 << F) - 1)).floor()
+    }
+
+    /// Returns the smallest integer greater than or equal to `self`, or `None` on overflow.
+    #[inline(always)]
+    pub const fn checked_ceil(self) -> Option<Self>
+        ensures variant { IsSome result ↔ FitsBits 16 (ceiling_of F (bits_of self.entry)) }
+        ensures value { IfSome result (λ whole. IsCeiling F (bits_of self.entry) (bits_of whole)) }
+    {
+        match self.checked_add(Self((1 << F) - 1)) {
+            Some(moved) => Some(moved.floor()),
+            None => None,
+        }
     }
 
     /// Returns the fractional part, `self - self.floor()`, at least 0 and less than 1.

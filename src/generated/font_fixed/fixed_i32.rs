@@ -21,13 +21,19 @@ use crate::definitions::font_fixed::FixedI32::text_of;
 #[cfg(doc)]
 use crate::definitions::font_fixed::Longest::longest;
 #[cfg(doc)]
+use crate::definitions::font_fixed::Operations::IsCeiling;
+#[cfg(doc)]
 use crate::definitions::font_fixed::Operations::IsFloor;
 #[cfg(doc)]
 use crate::definitions::font_fixed::Operations::IsFract;
 #[cfg(doc)]
 use crate::definitions::font_fixed::Operations::IsNearestWhole;
 #[cfg(doc)]
+use crate::definitions::font_fixed::Operations::IsWrappedCeiling;
+#[cfg(doc)]
 use crate::definitions::font_fixed::Operations::WrapsTo;
+#[cfg(doc)]
+use crate::definitions::font_fixed::Operations::ceiling_of;
 #[cfg(doc)]
 use crate::definitions::font_fixed::Operations::clamp;
 #[cfg(doc)]
@@ -318,6 +324,40 @@ where
     #[inline(always)]
     pub const fn floor(self) -> Self {
         Self(floor_bits_32(self.0, F))
+    }
+
+    /// Returns the smallest integer greater than or equal to `self`; wraps: `MAX.ceil()` is `MIN`.
+    ///
+    /// <details><summary>Contract</summary>
+    ///
+    /// ```text
+    /// ensures { IsWrappedCeiling 32 F (bits_of self.entry) (bits_of result) }
+    /// ```
+    /// [Notation](crate::definitions): [`IsWrappedCeiling`], [`bits_of`]
+    /// </details>
+    #[must_use]
+    #[inline(always)]
+    pub const fn ceil(self) -> Self {
+        self.wrapping_add(Self((1 << F) - 1)).floor()
+    }
+
+    /// Returns the smallest integer greater than or equal to `self`, or `None` on overflow.
+    ///
+    /// <details><summary>Contract</summary>
+    ///
+    /// ```text
+    /// ensures variant { IsSome result ↔ FitsBits 32 (ceiling_of F (bits_of self.entry)) }
+    /// ensures value { IfSome result (λ whole. IsCeiling F (bits_of self.entry) (bits_of whole)) }
+    /// ```
+    /// [Notation](crate::definitions): [`FitsBits`], [`ceiling_of`], [`bits_of`], [`IsCeiling`]
+    /// </details>
+    #[must_use]
+    #[inline(always)]
+    pub const fn checked_ceil(self) -> Option<Self> {
+        match self.checked_add(Self((1 << F) - 1)) {
+            Some(moved) => Some(moved.floor()),
+            None => None,
+        }
     }
 
     /// Returns the fractional part, `self - self.floor()`, at least 0 and less than 1.

@@ -1,0 +1,9 @@
+use Rattle.std.proofs.Common.{rules, refl, w16}
+use Rattle.font_fixed.proofs.Ceilings.{rest_fits, ceiling_wraps}
+use Rattle.font_fixed.proofs.fixed_i16.FixedI16.ceil.Goals as goal
+
+pub overflow_sub-wrapping_add : goal.overflow_sub-wrapping_add
+overflow_sub-wrapping_add g c = rest_fits w16 _ g.row.F refl (search rules)
+
+pub returns : goal.returns
+returns g c = ceiling_wraps w16 _ g.row.F _ _ _ refl (search rules) (search rules) c.floor.ensures
