@@ -19,6 +19,7 @@
 //! | quantities in font units | [`FWord`], [`UfWord`] |
 //! | offsets | [`Offset16`], [`Offset24`], [`Offset32`], [`Nullable`], [`OffsetValue`] |
 //! | geometry | [`Point`], [`Matrix`], [`BoundingBox`], [`MatrixElement`], [`RingElement`] |
+//! | outlines, scaled to pixels | [`Scale`] |
 //! | sums of deltas | [`DeltaSum`], [`delta_sum`], [`checked_delta_sum`], [`vary`] |
 //! | decimal text, parsed | [`read_decimal`], [`read_decimal_bytes`] |
 //! | decimal text, printed | [`Shortest`], [`write_padded`], [`Pad`], [`Align`] |

@@ -664,6 +664,9 @@ fn checked_images_and_products() {
         let found = a.checked_transform(fixed(x), fixed(y));
         let right = form(p, x, r, y, d).zip(form(q, x, x, y, y));
         assert_eq!(found, right, "{p} {q} {x} {y} {d}");
+        let of_pixels = a.checked_image(Point::new(x, y).map(F26Dot6::from_bits));
+        let bits = right.map(|(x, y)| Point::new(x.to_bits(), y.to_bits()));
+        assert_eq!(of_pixels.map(|moved| moved.map(F26Dot6::to_bits)), bits);
         if let Some(image) = found {
             assert_eq!(image, a.transform(fixed(x), fixed(y)));
         }
@@ -703,6 +706,57 @@ fn checked_images_and_products() {
     const HALVED: Option<(Fixed, Fixed)> = Matrix::from_elements([Fixed::from_bits(0x8000); 6])
         .checked_transform(Fixed::ONE, Fixed::ONE);
     assert_eq!(HALVED.map(|(x, _)| x.to_bits()), Some(0x1_8000));
+}
+
+#[test]
+fn scales() {
+    // By FreeType 2.12.1: `FT_DivFix(size, units_per_em)`, and `FT_MulFix` of the units and that.
+    for (size, units_per_em, factor, units, pixels) in [
+        (768, 1000, 50332, 700, 538),
+        (768, 1000, 50332, -250, -192),
+        (1029, 1000, 67437, -515, -530),
+        (1024, 2048, 32768, 1, 1),
+        (1024, 2048, 32768, -1, -1),
+        (1, 65535, 1, 32767, 0),
+        (-768, 1000, -50332, 700, -538),
+        (16320, 16, 66846720, i16::MIN, -33423360),
+    ] {
+        let scale = Scale::new(F26Dot6::from_bits(size), units_per_em).unwrap();
+        assert_eq!(scale, Scale::from_factor(Fixed::from_bits(factor)));
+        assert_eq!(scale.apply(units).to_bits(), pixels, "{size} {units_per_em} {units}");
+    }
+    let words = [i16::MIN, -700, -1, 0, 1, 3, 700, i16::MAX];
+    let more = [i32::MIN, -65536, -65535, 65535, 65536, i32::MAX];
+    let sizes = [i32::MIN, -768, -1, 0, 1, 640, 1029, 16320, i32::MAX];
+    let number = |n: i128| i32::try_from(n).ok();
+    for (size, em) in sizes.iter().flat_map(|&s| [0, 1, 15, 16, 1000, 2048, 0xFFFF].map(|m| (s, m)))
+    {
+        let (m, s) = (i128::from(em), i128::from(size));
+        let factor = if em == 0 { None } else { number(near(s << 16, m)) };
+        let of = F26Dot6::from_bits(size);
+        assert_eq!(Scale::new(of, em).map(|it| it.factor().to_bits()), factor, "{size} {em}");
+        let pixels = |units: i128| number(near(units * i128::from(factor?), 1 << 16));
+        for (u, v) in words.iter().flat_map(|&u| words.map(|v| (u, v))) {
+            let (p, q) = (pixels(u.into()), pixels(v.into()));
+            let found = laws::scaled(of, em, u, v);
+            assert_eq!(found.map(|(p, q)| (p.to_bits(), q.to_bits())), p.zip(q), "{size} {em} {u}");
+            let Some(scale) = Scale::new(of, em) else { continue };
+            let found = scale.apply_point(Point::new(u, v)).map(F26Dot6::to_bits);
+            assert_eq!(Some(found), p.zip(q).map(|(p, q)| Point::new(p, q)));
+            let (p, u) = (i128::from(found.x), i128::from(u));
+            assert!((p * m - u * s).abs() << 17 <= m * (65536 + u.abs()), "{size} {em} {u}");
+        }
+        let Some(scale) = Scale::new(of, em) else { continue };
+        for (u, v) in more.iter().flat_map(|&u| more.map(|v| (u, v))) {
+            let both = Point::new(pixels(u.into()), pixels(v.into()));
+            assert_eq!(scale.checked_apply(u).map(F26Dot6::to_bits), both.x, "{size} {em} {u}");
+            let found = scale.checked_apply_point(Point::new(u, v));
+            let right = both.x.zip(both.y).map(|(x, y)| Point::new(x, y));
+            assert_eq!(found.map(|it| it.map(F26Dot6::to_bits)), right, "{size} {em} {u} {v}");
+        }
+    }
+    const HALF: Option<Scale> = Scale::new(F26Dot6::from_bits(512), 1024);
+    assert_eq!(HALF.map(|it| it.apply_point(Point::new(2, -3)).y.to_bits()), Some(-2));
 }
 
 /// Returns `x * a / c` as `mul_div` does.

@@ -281,6 +281,7 @@ fn traits() {
         [Point<Fixed>] "Copy Debug Default Eq Add Neg Mul Div";
         [BoundingBox<Fixed>] "Copy Debug Default Eq";
         [Matrix<Fixed>] "Copy Debug Default Eq Mul";
+        [Scale] "Copy Debug Eq Hash";
         [TableDataRef<'static, SampleHeader>, SampleHeader] "Copy Debug";
         [Shortest] "Copy Debug Display Eq Hash";
         [Pad, Align] "Copy Debug Eq Hash";

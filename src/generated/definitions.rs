@@ -2077,7 +2077,7 @@ pub mod font_geom {
     /// Matrices of `Fixed`, over their raw values (OpenType, data types: Fixed is 16.16), and the distance of a transformed
     /// point from its exact image.
     ///
-    /// In the order of `crates/font_geom/specs/FixedMatrix.antt`: [`matrix_bits`](mod@FixedMatrix::matrix_bits), [`point_bits`](mod@FixedMatrix::point_bits), [`rounded_product`](mod@FixedMatrix::rounded_product), [`rounded_image`](mod@FixedMatrix::rounded_image), [`rounded_matrix_product`](mod@FixedMatrix::rounded_matrix_product), [`wrapped_product`](mod@FixedMatrix::wrapped_product), [`wrapped_sum`](mod@FixedMatrix::wrapped_sum), [`fixed_product`](mod@FixedMatrix::fixed_product), [`ProductsAssociate`](mod@FixedMatrix::ProductsAssociate), [`FitsPoint`](mod@FixedMatrix::FitsPoint), [`FitsComposed`](mod@FixedMatrix::FitsComposed), [`FitsInTurn`](mod@FixedMatrix::FitsInTurn), [`exact_row`](mod@FixedMatrix::exact_row), [`IsCloseImage`](mod@FixedMatrix::IsCloseImage), [`exact_coordinate`](mod@FixedMatrix::exact_coordinate), [`exact_image`](mod@FixedMatrix::exact_image), [`IsWithin`](mod@FixedMatrix::IsWithin), [`IsCloseComposed`](mod@FixedMatrix::IsCloseComposed), [`IsCloseInTurn`](mod@FixedMatrix::IsCloseInTurn).
+    /// In the order of `crates/font_geom/specs/FixedMatrix.antt`: [`matrix_bits`](mod@FixedMatrix::matrix_bits), [`point_bits`](mod@FixedMatrix::point_bits), [`bits_of_point`](mod@FixedMatrix::bits_of_point), [`rounded_product`](mod@FixedMatrix::rounded_product), [`rounded_image`](mod@FixedMatrix::rounded_image), [`rounded_matrix_product`](mod@FixedMatrix::rounded_matrix_product), [`wrapped_product`](mod@FixedMatrix::wrapped_product), [`wrapped_sum`](mod@FixedMatrix::wrapped_sum), [`fixed_product`](mod@FixedMatrix::fixed_product), [`ProductsAssociate`](mod@FixedMatrix::ProductsAssociate), [`FitsPoint`](mod@FixedMatrix::FitsPoint), [`FitsComposed`](mod@FixedMatrix::FitsComposed), [`FitsInTurn`](mod@FixedMatrix::FitsInTurn), [`exact_row`](mod@FixedMatrix::exact_row), [`IsCloseImage`](mod@FixedMatrix::IsCloseImage), [`exact_coordinate`](mod@FixedMatrix::exact_coordinate), [`exact_image`](mod@FixedMatrix::exact_image), [`IsWithin`](mod@FixedMatrix::IsWithin), [`IsCloseComposed`](mod@FixedMatrix::IsCloseComposed), [`IsCloseInTurn`](mod@FixedMatrix::IsCloseInTurn).
     pub mod FixedMatrix {
         use crate::definitions::font_base::Wrap::FitsBits;
         use crate::definitions::font_base::Wrap::wrap;
@@ -2085,6 +2085,7 @@ pub mod font_geom {
         use crate::definitions::font_fixed::Fixed::Fixed;
         use crate::definitions::font_fixed::Fixed::fixed_bits;
         use crate::definitions::font_fixed::Fixed::fixed_of;
+        use crate::definitions::font_fixed::FixedI32::bits_of;
         use crate::definitions::font_geom::Matrix::FitsEach;
         use crate::definitions::font_geom::Matrix::image_of;
         use crate::definitions::font_geom::Matrix::matrix_product;
@@ -2112,6 +2113,15 @@ pub mod font_geom {
         /// ```
         /// [`Fixed`], [`fixed_bits`]
         pub mod point_bits {}
+
+        /// the same of a point of any format of 32 bits
+        ///
+        /// ```text
+        /// abbrev bits_of_point : {F : ℕ} → Point (FixedI32 F) → Point ℤ
+        /// bits_of_point p = record { x = bits_of p.x; y = bits_of p.y }
+        /// ```
+        /// [`bits_of`]
+        pub mod bits_of_point {}
 
         /// the product of two raw values, rounded half away from zero, and not wrapped
         ///
@@ -2451,6 +2461,43 @@ pub mod font_geom {
         ///   times_zero : (x : T) → times x zero ≡ zero
         /// ```
         pub mod RingLaws {}
+    }
+
+    /// Scales of outlines: 16.16 numbers of pixels in 26.6 for each font unit, over their raw values (FreeType: FT_Size_Metrics,
+    /// "x_scale: a 16.16 fractional scaling value used to convert horizontal metrics from font units to 26.6 fractional
+    /// pixels").
+    ///
+    /// In the order of `crates/font_geom/specs/Scale.antt`: [`scale_bits`](mod@Scale::scale_bits), [`factor_of`](mod@Scale::factor_of), [`IsCloseScaled`](mod@Scale::IsCloseScaled).
+    pub mod Scale {
+        use crate::definitions::font_decimal::Near::near;
+        use crate::definitions::font_fixed::Fixed::fixed_bits;
+        /// the raw value of the factor
+        ///
+        /// ```text
+        /// abbrev scale_bits : Scale → ℤ
+        /// scale_bits scale = fixed_bits scale.0
+        /// ```
+        /// [`fixed_bits`]
+        pub mod scale_bits {}
+
+        /// the factor of a size, a raw value in 26.6, for so many units per em: FT_DivFix
+        ///
+        /// ```text
+        /// abbrev factor_of : ℤ → ℕ → ℤ
+        /// factor_of size units_per_em = near (size *ℤ pos 65536) units_per_em
+        /// ```
+        /// [`near`]
+        pub mod factor_of {}
+
+        /// the raw value in 26.6 is at most 1/2 + |units| / 2^17 from units * size / units_per_em, multiplied by 2^17 *
+        /// units_per_em
+        ///
+        /// ```text
+        /// abbrev IsCloseScaled : ℤ → ℕ → ℤ → ℤ → Type 0
+        /// IsCloseScaled size units_per_em units pixels =
+        ///     2 ^ 17 * unsigned_abs (pixels *ℤ pos units_per_em -ℤ units *ℤ size) ≤ units_per_em * (65536 + unsigned_abs units)
+        /// ```
+        pub mod IsCloseScaled {}
     }
 }
 

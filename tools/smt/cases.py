@@ -265,6 +265,9 @@ for i, axis in enumerate("xy"):
 case("Matrix::checked_transform", given, "?u64",
      f"{matrix('a')}.checked_transform({FROM}).map(|(x, y)| Point::new(x, y)).map(|it| {BOTH})",
      lambda p, *v: some(all_fit(*moved(p, *v)), two(*moved(p, *v))))
+case("Matrix::checked_image", given, "?u64", f"{matrix('a')}.checked_image(Point::new("
+     f"F26Dot6::from_bits(x), F26Dot6::from_bits(y))).map(|it| {BOTH})",
+     lambda p, *v: some(all_fit(*moved(p, *v)), two(*moved(p, *v))))
 given = entries("a") + ", " + entries("b")
 for name in ENTRIES:
     case(f"Matrix * Matrix, {name}", given, "i32",
@@ -278,6 +281,29 @@ for m, n in zip(ENTRIES[::2], ENTRIES[1::2]):
          f"{matrix('a')}.checked_mul({matrix('b')}).map(|it| {PAIR.format(m, n)})",
          lambda p, *v, m=m, n=n: (lambda it: some(all_fit(*it.values()), two(it[m], it[n])))(
              product(p, *v)))
+
+
+# ---------------------------------------------------------------- scales
+SCALE = "Scale::from_factor(Fixed::from_bits(s))"
+pixels = lambda p, x, s: near(p.times(x, s), 16)
+relation("Scale::new, factor", "x: i32, y: u16", "?i32",
+         "Scale::new(F26Dot6::from_bits(x), y).map(|it| it.factor().to_bits())",
+         lambda p, x, y, result: checked_scaled(
+             p, x, z3.BitVecVal(1 << 16, 32), z3.ZeroExt(16, y), result))
+case("Scale::from_factor", "s: i32", "i32", f"{SCALE}.factor().to_bits()", lambda p, s: s)
+relation("Scale::apply", "x: i16, s: i32", "i32", f"{SCALE}.apply(x).to_bits()",
+         lambda p, x, s, result: z3.And(
+             fits(32, pixels(p, x, s)), result == wrap(32, pixels(p, x, s))))
+case("Scale::checked_apply", "x: i32, s: i32", "?i32",
+     f"{SCALE}.checked_apply(x).map(F26Dot6::to_bits)",
+     lambda p, x, s: checked(32, pixels(p, x, s)))
+case("Scale::apply_point", "x: i16, y: i16, s: i32", "u64",
+     f"{{ let it = {SCALE}.apply_point(Point::new(x, y)); {BOTH} }}",
+     lambda p, x, y, s: two(pixels(p, x, s), pixels(p, y, s)))
+case("Scale::checked_apply_point", "x: i32, y: i32, s: i32", "?u64",
+     f"{SCALE}.checked_apply_point(Point::new(x, y)).map(|it| {BOTH})",
+     lambda p, x, y, s: some(all_fit(pixels(p, x, s), pixels(p, y, s)),
+                             two(pixels(p, x, s), pixels(p, y, s))))
 
 
 def of_points(sign: str, calc: Rule) -> None:

@@ -30,7 +30,7 @@ OTHERS = (
 # comments in tests: a commit that adds or removes one changes its number here. A path, the ending
 # of its files, and a text.
 COUNTS = [
-    ("tests/", ".rs", "#[test]\n", 204),
+    ("tests/", ".rs", "#[test]\n", 205),
     ("compare/tests/", ".rs", "#[test]\n", 35),
     ("crates/", ".rt", "#[test]\n", 149),
     ("tools/tests/", ".py", "\n    def test_", 23),
@@ -39,9 +39,9 @@ COUNTS = [
     ("tests/", ".rs", "#[cfg", 11),
     ("tests/", ".rs", "return;", 0),
     ("tests/", ".rs", "/*", 0),
-    ("crates/", ".rt", "\nmod ", 111),
-    ("crates/", ".edit", "# clause: ", 271),
-    ("crates/", ".edit", "# control: ", 71),
+    ("crates/", ".rt", "\nmod ", 112),
+    ("crates/", ".edit", "# clause: ", 278),
+    ("crates/", ".edit", "# control: ", 73),
     ("crates/fontval/", "stdin", "\n", 213),
     ("c/tests/", ".sh", "\n", 376),
 ]

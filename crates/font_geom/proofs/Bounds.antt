@@ -16,11 +16,11 @@ use Rattle.font_geom.specs.FixedMatrix.{IsBoundedPoint, form_bound, has_room_com
 use Rattle.font_geom.specs.{declared.matrix.Matrix.Matrix, declared.point.Point.Point}
 
 -- a and b are at most e apart
-record Close (e : ℕ) (a b : ℤ) : Type 0 where
-  low : a ≤ℤ (b +ℤ pos e)
-  high : b ≤ℤ (a +ℤ pos e)
+pub record Close (e : ℕ) (a b : ℤ) : Type 0 where
+  pub low : a ≤ℤ (b +ℤ pos e)
+  pub high : b ≤ℤ (a +ℤ pos e)
 
-Close-times : (e : ℕ) (a b x : ℤ) → Close e a b → Close (e * unsigned_abs x) (a *ℤ x) (b *ℤ x)
+pub Close-times : (e : ℕ) (a b x : ℤ) → Close e a b → Close (e * unsigned_abs x) (a *ℤ x) (b *ℤ x)
 Close-times e a b x p =
     let split : a ≡ ((a -ℤ b) +ℤ b) = omega (arith, sums) in
     let spread = ap (λ n. n *ℤ x) split ∙ sum-times (a -ℤ b) b x in
@@ -28,7 +28,7 @@ Close-times e a b x p =
     omega (arith, sums, spread, unsigned_abs-mul (a -ℤ b) x, mul-le-mul_right (unsigned_abs x) apart)
 
 -- a rounded product is half a step off
-rounded_close : (x y : ℤ) → Close 32768 (rounded_product x y *ℤ pos 65536) (x *ℤ y)
+pub rounded_close : (x y : ℤ) → Close 32768 (rounded_product x y *ℤ pos 65536) (x *ℤ y)
 rounded_close x y = let nearest = near_is (x *ℤ y) 65536 (lit< tt) in omega (arith, sums, nearest.close)
 
 linear_close : (p x q y : ℤ) → Close 65536 (linear_form ◌+ℤ◌ rounded_product p x q y *ℤ pos 65536)
@@ -228,5 +228,10 @@ fits_in_turn m d m' d' n a b p s t q test =
 -- a bound may be replaced by a greater one
 pub within_more : (d e : ℕ) (exact moved : ℤ) → IsWithin d exact moved → d ≤ e → IsWithin e exact moved
 within_more d e exact moved close less = le_trans close less
+
+-- equal coordinates have equal images
+pub same_fits : (m : Matrix ℤ) (x y u v : ℤ) → x ≡ u → y ≡ v → FitsPoint (rounded_image m (record { x = x; y = y }))
+    → FitsPoint (rounded_image m (record { x = u; y = v }))
+same_fits m x y u v first second fits = rw (first, second) at fits
 
 pub ruleset bound_calls = (fits_composed, fits_in_turn, within_more)

@@ -3,3 +3,4 @@ pub mod Elements
 pub mod Bounds
 pub mod RingCalls
 pub mod FixedCalls
+pub mod Scaled

@@ -6,6 +6,7 @@ use Rattle.std.specs.Prelude.{unsigned_abs}
 use Rattle.font_base.specs.Wrap.{FitsBits, wrap}
 use Rattle.font_decimal.specs.Near.{near}
 use Rattle.font_fixed.specs.Fixed.{Fixed, fixed_bits, fixed_of}
+use Rattle.font_fixed.specs.{FixedI32.bits_of, declared.fixed_i32.FixedI32.FixedI32}
 use Rattle.font_geom.specs.Matrix.{image_of, matrix_product, FitsEach}
 use Rattle.font_geom.specs.{declared.matrix.Matrix.Matrix, declared.point.Point.Point}
 
@@ -22,6 +23,10 @@ matrix_bits m = record {
 
 abbrev pub point_bits : Point Fixed → Point ℤ
 point_bits p = record { x = fixed_bits p.x; y = fixed_bits p.y }
+
+-- the same of a point of any format of 32 bits
+abbrev pub bits_of_point : {F : ℕ} → Point (FixedI32 F) → Point ℤ
+bits_of_point p = record { x = bits_of p.x; y = bits_of p.y }
 
 -- the product of two raw values, rounded half away from zero, and not wrapped
 abbrev pub rounded_product : ℤ → ℤ → ℤ

@@ -1,15 +1,17 @@
 //! Laws of matrices, as contracts of functions that make the calls and return their results.
 
-ghost use Rattle.std.specs.Prelude.{◌≡◌, ◌+ℤ◌, pos, ◌↔◌, IsSome, IfSome};
+ghost use Rattle.std.specs.Prelude.{◌≡◌, ◌≢◌, ◌+ℤ◌, ◌≤ℤ◌, pos, neg_ℤ, ◌↔◌, IsSome, IfSome};
 ghost use Rattle.font_geom.specs.Matrix.{identity_matrix, image_of, matrix_product};
 ghost use Rattle.font_geom.specs.FixedMatrix.{matrix_bits, point_bits, wrapped_sum};
 ghost use Rattle.font_geom.specs.FixedMatrix.{wrapped_product, FitsComposed, FitsInTurn};
 ghost use Rattle.font_geom.specs.FixedMatrix.{rounded_product, FitsPoint, IsCloseImage};
 ghost use Rattle.font_geom.specs.FixedMatrix.{IsCloseComposed, IsCloseInTurn, ProductsAssociate};
-ghost use Rattle.font_fixed.specs.Fixed.{fixed_bits};
+ghost use Rattle.font_geom.specs.Scale.{factor_of, IsCloseScaled};
+ghost use Rattle.font_base.specs.Wrap.{FitsBits};
+ghost use Rattle.font_fixed.specs.{F26Dot6.f26dot6_bits, Fixed.fixed_bits};
 
-use crate::{Matrix, Point, RingElement};
-use font_fixed::Fixed;
+use crate::{Matrix, Point, RingElement, Scale};
+use font_fixed::{F26Dot6, Fixed};
 
 /// Returns `(a * b) * c` and `a * (b * c)`, which are equal.
 pub fn associative<T: RingElement>(
@@ -142,4 +144,28 @@ pub fn checked_in_turn(a: Matrix<Fixed>, b: Matrix<Fixed>, p: Point<Fixed>) -> O
     let (x, y) = b.checked_transform(p.x, p.y)?;
     let (x, y) = a.checked_transform(x, y)?;
     Some(Point::new(x, y))
+}
+
+/// Returns `u` and `v`, two numbers of font units, at one size, or `None` if there is no scale.
+///
+/// In `1 / 64` pixel, the first is at most `1 / 2 + |u| / 2^17` from `u * size / units_per_em`. If
+/// the size is not negative, the greater number never becomes the smaller. Opposite numbers become
+/// opposite numbers.
+#[tactic(auto, using(crate::proofs::Scaled::scaled_calls))]
+pub fn scaled(size: F26Dot6, units_per_em: u16, u: i16, v: i16) -> Option<(F26Dot6, F26Dot6)>
+    ensures variant { IsSome result ↔ ((units_per_em ≢ 0)
+        × FitsBits 32 (factor_of (f26dot6_bits size) units_per_em)) }
+    ensures first { IfSome result (λ pair. f26dot6_bits pair.0
+        ≡ rounded_product u (factor_of (f26dot6_bits size) units_per_em)) }
+    ensures second { IfSome result (λ pair. f26dot6_bits pair.1
+        ≡ rounded_product v (factor_of (f26dot6_bits size) units_per_em)) }
+    ensures close { IfSome result (λ pair.
+        IsCloseScaled (f26dot6_bits size) units_per_em u (f26dot6_bits pair.0)) }
+    ensures in_order { pos 0 ≤ℤ f26dot6_bits size → u ≤ℤ v
+        → IfSome result (λ pair. f26dot6_bits pair.0 ≤ℤ f26dot6_bits pair.1) }
+    ensures opposite { u ≡ neg_ℤ v
+        → IfSome result (λ pair. f26dot6_bits pair.0 ≡ neg_ℤ (f26dot6_bits pair.1)) }
+{
+    let scale = Scale::new(size, units_per_em)?;
+    Some((scale.apply(u), scale.apply(v)))
 }

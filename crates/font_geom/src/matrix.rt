@@ -4,13 +4,13 @@ ghost use Rattle.std.specs.Prelude.{◌≡◌, ◌↔◌, ◌^◌, ◌≤◌, po
 ghost use Rattle.font_base.specs.Wrap.{FitsBits};
 ghost use Rattle.font_fixed.specs.Fixed.{fixed_bits, fixed_of};
 ghost use Rattle.font_geom.specs.Calls.{CanCallEach, CallsEach};
-ghost use Rattle.font_geom.specs.FixedMatrix.{matrix_bits, point_bits, rounded_product};
+ghost use Rattle.font_geom.specs.FixedMatrix.{matrix_bits, point_bits, bits_of_point, rounded_product};
 ghost use Rattle.font_geom.specs.FixedMatrix.{rounded_image, rounded_matrix_product, FitsPoint};
 ghost use Rattle.font_geom.specs.Matrix.{affine_form, FitsEach, elements_of, identity_matrix};
 ghost use Rattle.font_geom.specs.Matrix.{CanTransform, IsTransformed, CanMultiply, IsProductOf};
 
 use crate::Point;
-use font_fixed::{F48Dot16, Fixed, nearest_product};
+use font_fixed::{F48Dot16, Fixed, FixedI32, nearest_product};
 use std::ops::{Add, Mul, MulAssign};
 
 /// An affine transformation: a 2 by 2 matrix and a translation.
@@ -193,6 +193,39 @@ impl Matrix<Fixed> {
         ) {
             (Some(x), Some(y)) => Some((x, y)),
             _ => None,
+        }
+    }
+
+    /// Returns the image of a point of any format, or `None` if one of its coordinates overflows.
+    /// Only the linear entries are numbers of 16.16: `dx` and `dy` have the raw values of a
+    /// translation in the format of the point.
+    ///
+    /// ```
+    /// use font_types::{F26Dot6, Fixed, Matrix, Point};
+    /// let matrix = Matrix { xx: Fixed::lit("0.5"), dx: Fixed::from_bits(64), ..Matrix::identity() };
+    /// let pixels = Point::new(F26Dot6::from_i32(10), F26Dot6::ZERO);
+    /// let moved = Point::new(F26Dot6::from_i32(6), F26Dot6::ZERO);
+    /// assert_eq!(matrix.checked_image(pixels), Some(moved));
+    /// ```
+    pub const fn checked_image<const F: u32>(
+        self,
+        point: Point<FixedI32<F>>,
+    ) -> Option<Point<FixedI32<F>>>
+        ensures variant { IsSome result
+            ↔ FitsPoint (rounded_image (matrix_bits self) (bits_of_point point.entry)) }
+        ensures value { IfSome result (λ moved. bits_of_point moved
+            ≡ rounded_image (matrix_bits self) (bits_of_point point.entry)) }
+    {
+        let (x, y) = (
+            Fixed::from_bits(point.x.to_bits()),
+            Fixed::from_bits(point.y.to_bits()),
+        );
+        match self.checked_transform(x, y) {
+            Some((x, y)) => Some(Point::new(
+                FixedI32::from_bits(x.to_bits()),
+                FixedI32::from_bits(y.to_bits()),
+            )),
+            None => None,
         }
     }
 

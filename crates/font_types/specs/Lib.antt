@@ -40,6 +40,7 @@ pub use Rattle.font_geom.specs.BoundingBox
 pub use Rattle.font_geom.specs.Matrix
 pub use Rattle.font_geom.specs.Ring
 pub use Rattle.font_geom.specs.FixedMatrix
+pub use Rattle.font_geom.specs.Scale
 pub use Rattle.font_decimal.specs.declared.reader.DecimalFault
 pub use Rattle.font_tags.specs.declared.tag.InvalidTag
 pub use Rattle.font_fixed.specs.declared.fixed_i16
@@ -47,3 +48,4 @@ pub use Rattle.font_fixed.specs.declared.fixed_i32
 pub use Rattle.font_fixed.specs.declared.fixed_i64
 pub use Rattle.font_geom.specs.declared.matrix
 pub use Rattle.font_geom.specs.declared.point
+pub use Rattle.font_geom.specs.declared.scale

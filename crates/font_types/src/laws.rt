@@ -15,7 +15,7 @@ pub use font_fixed::laws::{f26dot6, fixed};
 use font_fixed::{F48Dot16, Fixed};
 pub use font_geom::laws::{
     action, associative, checked_composed, checked_in_turn, composed, fixed_identity,
-    identity_neutral, image, in_turn, step_and_halves,
+    identity_neutral, image, in_turn, scaled, step_and_halves,
 };
 
 /// Returns the sum of two lists of terms, each summed apart, by `delta_sum` and by `DeltaSum`. Both

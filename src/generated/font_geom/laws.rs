@@ -3,6 +3,10 @@
 //! Laws of matrices, as contracts of functions that make the calls and return their results.
 
 #[cfg(doc)]
+use crate::definitions::font_base::Wrap::FitsBits;
+#[cfg(doc)]
+use crate::definitions::font_fixed::F26Dot6::f26dot6_bits;
+#[cfg(doc)]
 use crate::definitions::font_fixed::Fixed::fixed_bits;
 #[cfg(doc)]
 use crate::definitions::font_geom::FixedMatrix::FitsComposed;
@@ -34,9 +38,13 @@ use crate::definitions::font_geom::Matrix::identity_matrix;
 use crate::definitions::font_geom::Matrix::image_of;
 #[cfg(doc)]
 use crate::definitions::font_geom::Matrix::matrix_product;
+#[cfg(doc)]
+use crate::definitions::font_geom::Scale::IsCloseScaled;
+#[cfg(doc)]
+use crate::definitions::font_geom::Scale::factor_of;
 
-use crate::font_fixed::Fixed;
-use crate::font_geom::{Matrix, Point, RingElement};
+use crate::font_fixed::{F26Dot6, Fixed};
+use crate::font_geom::{Matrix, Point, RingElement, Scale};
 
 /// Returns `(a * b) * c` and `a * (b * c)`, which are equal.
 ///
@@ -256,4 +264,35 @@ pub fn checked_in_turn(
     let (x, y) = b.checked_transform(p.x, p.y)?;
     let (x, y) = a.checked_transform(x, y)?;
     Some(Point::new(x, y))
+}
+
+/// Returns `u` and `v`, two numbers of font units, at one size, or `None` if there is no scale.
+///
+/// In `1 / 64` pixel, the first is at most `1 / 2 + |u| / 2^17` from `u * size / units_per_em`. If
+/// the size is not negative, the greater number never becomes the smaller. Opposite numbers become
+/// opposite numbers.
+///
+/// <details><summary>Contract</summary>
+///
+/// ```text
+/// ensures variant { IsSome result ↔ ((units_per_em ≢ 0)
+///     × FitsBits 32 (factor_of (f26dot6_bits size) units_per_em)) }
+/// ensures first { IfSome result (λ pair. f26dot6_bits pair.0
+///     ≡ rounded_product u (factor_of (f26dot6_bits size) units_per_em)) }
+/// ensures second { IfSome result (λ pair. f26dot6_bits pair.1
+///     ≡ rounded_product v (factor_of (f26dot6_bits size) units_per_em)) }
+/// ensures close { IfSome result (λ pair.
+///     IsCloseScaled (f26dot6_bits size) units_per_em u (f26dot6_bits pair.0)) }
+/// ensures in_order { pos 0 ≤ℤ f26dot6_bits size → u ≤ℤ v
+///     → IfSome result (λ pair. f26dot6_bits pair.0 ≤ℤ f26dot6_bits pair.1) }
+/// ensures opposite { u ≡ neg_ℤ v
+///     → IfSome result (λ pair. f26dot6_bits pair.0 ≡ neg_ℤ (f26dot6_bits pair.1)) }
+/// ```
+/// [Notation](crate::definitions): [`FitsBits`], [`factor_of`], [`f26dot6_bits`], [`rounded_product`], [`IsCloseScaled`]
+/// </details>
+#[must_use]
+#[inline]
+pub fn scaled(size: F26Dot6, units_per_em: u16, u: i16, v: i16) -> Option<(F26Dot6, F26Dot6)> {
+    let scale = Scale::new(size, units_per_em)?;
+    Some((scale.apply(u), scale.apply(v)))
 }

@@ -11,6 +11,8 @@ use crate::definitions::font_geom::Calls::CanCallEach;
 #[cfg(doc)]
 use crate::definitions::font_geom::FixedMatrix::FitsPoint;
 #[cfg(doc)]
+use crate::definitions::font_geom::FixedMatrix::bits_of_point;
+#[cfg(doc)]
 use crate::definitions::font_geom::FixedMatrix::matrix_bits;
 #[cfg(doc)]
 use crate::definitions::font_geom::FixedMatrix::point_bits;
@@ -33,7 +35,7 @@ use crate::definitions::font_geom::Matrix::elements_of;
 #[cfg(doc)]
 use crate::definitions::font_geom::Matrix::identity_matrix;
 
-use crate::font_fixed::{F48Dot16, Fixed, nearest_product};
+use crate::font_fixed::{F48Dot16, Fixed, FixedI32, nearest_product};
 use crate::font_geom::Point;
 use core::ops::{Add, Mul, MulAssign};
 
@@ -243,6 +245,43 @@ impl Matrix<Fixed> {
         ) {
             (Some(x), Some(y)) => Some((x, y)),
             _ => None,
+        }
+    }
+
+    /// Returns the image of a point of any format, or `None` if one of its coordinates overflows.
+    /// Only the linear entries are numbers of 16.16: `dx` and `dy` have the raw values of a
+    /// translation in the format of the point.
+    ///
+    /// ```
+    /// use font_types_proved::{F26Dot6, Fixed, Matrix, Point};
+    /// let matrix = Matrix { xx: Fixed::lit("0.5"), dx: Fixed::from_bits(64), ..Matrix::identity() };
+    /// let pixels = Point::new(F26Dot6::from_i32(10), F26Dot6::ZERO);
+    /// let moved = Point::new(F26Dot6::from_i32(6), F26Dot6::ZERO);
+    /// assert_eq!(matrix.checked_image(pixels), Some(moved));
+    /// ```
+    ///
+    /// <details><summary>Contract</summary>
+    ///
+    /// ```text
+    /// ensures variant { IsSome result
+    ///     ↔ FitsPoint (rounded_image (matrix_bits self) (bits_of_point point.entry)) }
+    /// ensures value { IfSome result (λ moved. bits_of_point moved
+    ///     ≡ rounded_image (matrix_bits self) (bits_of_point point.entry)) }
+    /// ```
+    /// [Notation](crate::definitions): [`FitsPoint`], [`rounded_image`], [`matrix_bits`], [`bits_of_point`]
+    /// </details>
+    #[must_use]
+    #[inline]
+    pub const fn checked_image<const F: u32>(
+        self,
+        point: Point<FixedI32<F>>,
+    ) -> Option<Point<FixedI32<F>>> {
+        let (x, y) = (Fixed::from_bits(point.x.to_bits()), Fixed::from_bits(point.y.to_bits()));
+        match self.checked_transform(x, y) {
+            Some((x, y)) => {
+                Some(Point::new(FixedI32::from_bits(x.to_bits()), FixedI32::from_bits(y.to_bits())))
+            }
+            None => None,
         }
     }
 

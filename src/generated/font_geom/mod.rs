@@ -12,8 +12,10 @@ pub mod laws;
 mod matrix;
 mod point;
 mod ring;
+mod scale;
 
 pub use bbox::BoundingBox;
 pub use matrix::{Matrix, MatrixElement};
 pub use point::Point;
 pub use ring::RingElement;
+pub use scale::Scale;

@@ -28,7 +28,7 @@ pub use crate::font_fixed::laws::{f26dot6, fixed};
 use crate::font_fixed::{F48Dot16, Fixed};
 pub use crate::font_geom::laws::{
     action, associative, checked_composed, checked_in_turn, composed, fixed_identity,
-    identity_neutral, image, in_turn, step_and_halves,
+    identity_neutral, image, in_turn, scaled, step_and_halves,
 };
 use crate::font_types::delta::sum_of;
 use crate::font_types::{DeltaSum, delta_sum};

@@ -25,7 +25,7 @@ pub use crate::font_fixed::{
     F2Dot14, F2Dot30, F4Dot12, F6Dot10, F26Dot6, F48Dot16, Fixed, FixedI16, FixedI32, FixedI64,
     Format,
 };
-pub use crate::font_geom::{BoundingBox, Matrix, MatrixElement, Point, RingElement};
+pub use crate::font_geom::{BoundingBox, Matrix, MatrixElement, Point, RingElement, Scale};
 pub use crate::font_ids::{
     FWord, GlyphId, GlyphId16, GlyphId24, NameId, Nullable, Offset16, Offset24, Offset32,
     OffsetValue, Predefined, TryFromGlyphIdError, UfWord,

@@ -1,0 +1,173 @@
+// @generated from crates/font_geom/src/scale.rt by tools/erase
+
+//! Scales of outlines.
+
+#[cfg(doc)]
+use crate::definitions::font_base::Wrap::FitsBits;
+#[cfg(doc)]
+use crate::definitions::font_fixed::F26Dot6::f26dot6_bits;
+#[cfg(doc)]
+use crate::definitions::font_fixed::Fixed::fixed_bits;
+#[cfg(doc)]
+use crate::definitions::font_geom::FixedMatrix::FitsPoint;
+#[cfg(doc)]
+use crate::definitions::font_geom::FixedMatrix::rounded_product;
+#[cfg(doc)]
+use crate::definitions::font_geom::Scale::factor_of;
+#[cfg(doc)]
+use crate::definitions::font_geom::Scale::scale_bits;
+
+use crate::font_fixed::{F26Dot6, Fixed, product};
+use crate::font_geom::Point;
+
+/// A scale: converts font units to pixels in 26.6, as FreeType does.
+///
+/// The factor is a 16.16 number, the `x_scale` or `y_scale` of FreeType's `FT_Size_Metrics`. A
+/// coordinate is the product of its units and the factor, rounded half away from zero: the result
+/// of `FT_MulFix`. With the factor of `new`, it is at most `1 / 2 + |units| / 2^17` of `1 / 64`
+/// pixel from the exact one.
+///
+/// ```
+/// use font_types_proved::{F26Dot6, FWord, Point, Scale};
+/// let scale = Scale::new(F26Dot6::from_i32(12), 1000).unwrap();
+/// assert_eq!(scale.apply(700), F26Dot6::from_bits(538));
+/// assert_eq!(scale.apply(FWord::new(-250).to_i16()), F26Dot6::from_bits(-192));
+/// let point = scale.apply_point(Point::new(700, -250));
+/// assert_eq!(point.map(F26Dot6::to_bits), Point::new(538, -192));
+/// ```
+///
+/// The source and its contracts: `crates/font_geom/src/scale.rt`.
+#[derive(Clone, Copy, PartialEq, Eq, Hash, Debug)]
+pub struct Scale(Fixed);
+
+impl Scale {
+    /// Creates the scale of a size, in pixels per em, or returns `None` if `units_per_em` is zero or
+    /// the factor overflows. The factor is that of `FT_DivFix`: the quotient of the raw values,
+    /// rounded half away from zero.
+    ///
+    /// <details><summary>Contract</summary>
+    ///
+    /// ```text
+    /// ensures variant { IsSome result ↔ ((units_per_em ≢ 0)
+    ///     × FitsBits 32 (factor_of (f26dot6_bits size) units_per_em)) }
+    /// ensures value { IfSome result
+    ///     (λ scale. scale_bits scale ≡ factor_of (f26dot6_bits size) units_per_em) }
+    /// ```
+    /// [Notation](crate::definitions): [`FitsBits`], [`factor_of`], [`f26dot6_bits`], [`scale_bits`]
+    /// </details>
+    #[must_use]
+    #[inline]
+    pub const fn new(size: F26Dot6, units_per_em: u16) -> Option<Self> {
+        match Fixed::from_bits(size.to_bits()).checked_div(Fixed::from_bits(units_per_em as i32)) {
+            Some(factor) => Some(Self(factor)),
+            None => None,
+        }
+    }
+
+    /// Creates a scale from its factor, for example from an `x_scale` of FreeType.
+    ///
+    /// <details><summary>Contract</summary>
+    ///
+    /// ```text
+    /// ensures { scale_bits result ≡ fixed_bits factor }
+    /// ```
+    /// [Notation](crate::definitions): [`scale_bits`], [`fixed_bits`]
+    /// </details>
+    #[must_use]
+    #[inline]
+    pub const fn from_factor(factor: Fixed) -> Self {
+        Self(factor)
+    }
+
+    /// Returns the factor.
+    ///
+    /// <details><summary>Contract</summary>
+    ///
+    /// ```text
+    /// ensures { fixed_bits result ≡ scale_bits self }
+    /// ```
+    /// [Notation](crate::definitions): [`fixed_bits`], [`scale_bits`]
+    /// </details>
+    #[must_use]
+    #[inline]
+    pub const fn factor(self) -> Fixed {
+        self.0
+    }
+
+    /// Scales a number of font units. No result overflows.
+    ///
+    /// <details><summary>Contract</summary>
+    ///
+    /// ```text
+    /// ensures { f26dot6_bits result ≡ rounded_product units (scale_bits self) }
+    /// ```
+    /// [Notation](crate::definitions): [`f26dot6_bits`], [`rounded_product`], [`scale_bits`]
+    /// </details>
+    #[must_use]
+    #[inline(always)]
+    pub const fn apply(self, units: i16) -> F26Dot6 {
+        F26Dot6::from_bits(product(units as i32, self.0.to_bits(), 16))
+    }
+
+    /// Scales a number of font units, or returns `None` on overflow. From -65535 to 65535 none
+    /// overflows.
+    ///
+    /// <details><summary>Contract</summary>
+    ///
+    /// ```text
+    /// ensures variant { IsSome result ↔ FitsBits 32 (rounded_product units (scale_bits self)) }
+    /// ensures value { IfSome result
+    ///     (λ pixels. f26dot6_bits pixels ≡ rounded_product units (scale_bits self)) }
+    /// ensures room { unsigned_abs units ≤ 65535 → IsSome result }
+    /// ```
+    /// [Notation](crate::definitions): [`FitsBits`], [`rounded_product`], [`scale_bits`], [`f26dot6_bits`]
+    /// </details>
+    #[must_use]
+    #[inline]
+    pub const fn checked_apply(self, units: i32) -> Option<F26Dot6> {
+        match Fixed::from_bits(units).checked_mul(self.0) {
+            Some(pixels) => Some(F26Dot6::from_bits(pixels.to_bits())),
+            None => None,
+        }
+    }
+
+    /// Scales a point in font units. No result overflows.
+    ///
+    /// <details><summary>Contract</summary>
+    ///
+    /// ```text
+    /// ensures x { f26dot6_bits result.x ≡ rounded_product point.x (scale_bits self) }
+    /// ensures y { f26dot6_bits result.y ≡ rounded_product point.y (scale_bits self) }
+    /// ```
+    /// [Notation](crate::definitions): [`f26dot6_bits`], [`rounded_product`], [`scale_bits`]
+    /// </details>
+    #[must_use]
+    #[inline(always)]
+    pub const fn apply_point(self, point: Point<i16>) -> Point<F26Dot6> {
+        Point::new(self.apply(point.x), self.apply(point.y))
+    }
+
+    /// Scales a point in font units, or returns `None` if a coordinate overflows.
+    ///
+    /// <details><summary>Contract</summary>
+    ///
+    /// ```text
+    /// ensures variant { IsSome result ↔ FitsPoint (record {
+    ///   x = rounded_product point.x (scale_bits self);
+    ///   y = rounded_product point.y (scale_bits self);
+    /// }) }
+    /// ensures value { IfSome result (λ pixels.
+    ///     (f26dot6_bits pixels.x ≡ rounded_product point.x (scale_bits self))
+    ///     × (f26dot6_bits pixels.y ≡ rounded_product point.y (scale_bits self))) }
+    /// ```
+    /// [Notation](crate::definitions): [`FitsPoint`], [`rounded_product`], [`scale_bits`], [`f26dot6_bits`]
+    /// </details>
+    #[must_use]
+    #[inline]
+    pub const fn checked_apply_point(self, point: Point<i32>) -> Option<Point<F26Dot6>> {
+        match (self.checked_apply(point.x), self.checked_apply(point.y)) {
+            (Some(x), Some(y)) => Some(Point::new(x, y)),
+            _ => None,
+        }
+    }
+}
