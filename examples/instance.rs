@@ -13,7 +13,7 @@ pub mod font;
 use font::Font;
 use font_types_proved::{F2Dot14, F48Dot16, Fixed, GlyphId16, Scalar, Tag, UfWord, records};
 use font_variations_proved::advances::{store_and_set, varied_by};
-use font_variations_proved::evaluator::{Setting, SettingError, VariationAxisRecord, segment_map};
+use font_variations_proved::evaluator::{SegmentMaps, Setting, SettingError, VariationAxisRecord};
 use font_variations_proved::evaluator::{final_coordinate, normalize, read_axis, read_setting};
 use font_variations_proved::instances::{StoreInstance, region_count};
 use font_variations_proved::maps::DeltaSetIndex;
@@ -51,20 +51,24 @@ fn read_axes(fvar: &[u8]) -> Option<Vec<VariationAxisRecord>> {
     records(fvar, start?, count?, size?)?.map(read_axis).collect()
 }
 
-/// The coordinate of a value of the axis of this index, from -1 to 1.
+/// The maps of the axes in `avar`, if the font has it.
+pub fn segment_maps<'a>(font: &Font<'a>) -> Result<Option<SegmentMaps<'a>>, String> {
+    Ok(of_version(font, b"avar", 1)?.map(SegmentMaps::new))
+}
+
+/// The coordinate of a value of the next axis, from -1 to 1. To take the maps in turn is linear in
+/// the length of `avar`.
 pub fn normalized(
-    font: &Font<'_>,
-    index: usize,
+    maps: &mut Option<SegmentMaps<'_>>,
     axis: VariationAxisRecord,
     value: Fixed,
 ) -> Result<F2Dot14, String> {
     let coordinate =
         normalize(value, axis).ok_or_else(|| format!("{}: an invalid axis", axis.axis_tag))?;
-    let map = match of_version(font, b"avar", 1)? {
-        Some(avar) => u16::try_from(index)
-            .ok()
-            .and_then(|index| segment_map(avar, index))
-            .ok_or_else(|| format!("{}: no map in `avar`", axis.axis_tag))?,
+    let map = match maps {
+        Some(maps) => {
+            maps.next_map().ok_or_else(|| format!("{}: no map in `avar`", axis.axis_tag))?
+        }
         None => &[],
     };
     Ok(final_coordinate(coordinate, map))
@@ -150,14 +154,14 @@ fn main() -> Result<(), Box<dyn std::error::Error>> {
     let settings: Result<Vec<Setting>, String> =
         words.iter().map(|word| setting(word, &axes)).collect();
     let settings = settings?;
-    let mut coordinates = Vec::new();
-    for (n, axis) in axes.into_iter().enumerate() {
+    let (mut coordinates, mut maps) = (Vec::new(), segment_maps(&font)?);
+    for axis in axes {
         // Of two settings of an axis, the last counts.
         let mut of_axis = settings.iter().rev().filter(|set| set.axis == axis.axis_tag);
         let value = of_axis.next().map_or(axis.default_value, |set| set.value);
         let (tag, min, max) = (axis.axis_tag, axis.min_value, axis.max_value);
         println!("{tag}: {value}, from {min} to {max}");
-        coordinates.push(normalized(&font, n, axis, value)?);
+        coordinates.push(normalized(&mut maps, axis, value)?);
     }
     for character in text.chars() {
         let glyph = glyph(&font, character)?;

@@ -19,7 +19,7 @@ use font_variations_proved::maps::{DeltaSetIndex, read_delta_set_index};
 use font_variations_proved::regions::region_scalar;
 use fonts::{MAP, MAPS, at_the_limits, font, font_of, fvar, hvar, hvar_of_two_axes};
 use fonts::{long_axes, of_five_axes, two_axes, words};
-use instance::{advance, all_advances, axes, metrics, normalized};
+use instance::{advance, all_advances, axes, metrics, normalized, segment_maps};
 use std::fs;
 use std::path::{Path, PathBuf};
 
@@ -154,7 +154,8 @@ fn axes_in_long_records() {
     let bytes = font_of([(b"fvar", long_axes())]);
     let font = instance::font::Font::new(&bytes).unwrap();
     let axes = axes(&font).unwrap();
-    let at = |n, value| normalized(&font, n, axes[n], Fixed::from_i32(value));
+    let mut maps = segment_maps(&font).unwrap();
+    let mut at = |n: usize, value| normalized(&mut maps, axes[n], Fixed::from_i32(value));
     let right = [0x2000, -0x2000].map(|bits| Ok(F2Dot14::from_bits(bits)));
     assert_eq!([at(0, 650), at(1, 75)], right);
 }
@@ -285,8 +286,9 @@ fn coordinates_of_two_axes() {
         };
         let font = instance::font::Font::new(&bytes).unwrap();
         let axes = axes(&font).unwrap();
-        let found = [(0, 864), (1, 150)].map(|(axis, value)| {
-            let coordinate = normalized(&font, axis, axes[axis], Fixed::from_i32(value));
+        let mut maps = segment_maps(&font).unwrap();
+        let found = [(0, 864), (1, 150)].map(|(axis, value): (usize, _)| {
+            let coordinate = normalized(&mut maps, axes[axis], Fixed::from_i32(value));
             coordinate.map(F2Dot14::to_bits)
         });
         assert_eq!(found, coordinates.map(Ok), "{avar:?}");

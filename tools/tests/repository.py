@@ -40,8 +40,8 @@ COUNTS = [
     ("tests/", ".rs", "return;", 0),
     ("tests/", ".rs", "/*", 0),
     ("crates/", ".rt", "\nmod ", 112),
-    ("crates/", ".edit", "# clause: ", 278),
-    ("crates/", ".edit", "# control: ", 73),
+    ("crates/", ".edit", "# clause: ", 279),
+    ("crates/", ".edit", "# control: ", 74),
     ("crates/fontval/", "stdin", "\n", 213),
     ("c/tests/", ".sh", "\n", 376),
 ]

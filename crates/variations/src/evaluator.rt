@@ -13,6 +13,7 @@ ghost use Rattle.variations.specs.Evaluator.{value_start, AreParts, ParsesSettin
 ghost use Rattle.variations.specs.Evaluator.{AreBelow, HasRange, mapping_at, mapping_count};
 ghost use Rattle.variations.specs.Evaluator.{HasSegmentMap, segment_map_bytes, IsSegmentEnd};
 ghost use Rattle.variations.specs.Evaluator.{IsMappedIn, IsMapped, IsFinal, IsStoredCoordinate};
+ghost use Rattle.variations.specs.Evaluator.{map_offset};
 
 use font_types::{DecimalFault, F2Dot14, Fixed, InvalidTag, NameId, Scalar, Tag};
 
@@ -247,8 +248,8 @@ pub fn to_stored(coordinate: Fixed) -> F2Dot14
 /// Finds the mappings of an axis in a table `avar`, each of four bytes. Returns `None` if the table
 /// has no such axis, or ends before the map of the axis does.
 ///
-/// The maps of the axes before it are walked. So one call for each axis takes a time that grows as
-/// the square of the number of axes. The version of the table is not read: it has to be 1.
+/// The maps of the axes before it are walked, so for all axes use [`SegmentMaps`]. The version of
+/// the table is not read: it has to be 1.
 #[must_use]
 #[tactic(auto, using(font_types::proofs::Callers::calls, crate::proofs::Segments::map_rules))]
 pub fn segment_map(avar: &[u8], axis: u16) -> Option<&[u8]>
@@ -264,6 +265,56 @@ pub fn segment_map(avar: &[u8], axis: u16) -> Option<&[u8]>
     }
     let count = u16::read_at(avar, start)?;
     avar.get(start + 2..)?.get(..4 * usize::from(count))
+}
+
+/// The segment maps of a table `avar`, one axis after another, each found in the same time. The
+/// version of the table is not read: it has to be 1.
+#[derive(Clone, Copy, Debug)]
+pub struct SegmentMaps<'a> {
+    avar: &'a [u8],
+    axis: u16,
+    start: usize,
+    ghost there: { start ≡ map_offset avar.now axis },
+}
+
+impl<'a> SegmentMaps<'a> {
+    /// Starts before the first axis.
+    #[must_use]
+    #[tactic(auto, using(font_types::proofs::Callers::calls, crate::proofs::Segments::map_rules))]
+    pub fn new(avar: &'a [u8]) -> SegmentMaps<'a>
+        ensures avar { result.avar.now ≡ avar.now }
+        ensures axis { result.axis ≡ 0 }
+    {
+        SegmentMaps {
+            avar,
+            axis: 0,
+            start: 8,
+        }
+    }
+
+    /// Returns the mappings of the next axis, as [`segment_map`] does. After a `None`, each further
+    /// call returns `None`.
+    #[tactic(auto, using(font_types::proofs::Callers::calls, crate::proofs::Segments::map_rules))]
+    pub fn next_map(&mut self) -> Option<&'a [u8]>
+        ensures variant { IsSome result ↔ HasSegmentMap self.old.avar.now self.old.axis }
+        ensures value { IfSome result (λ map.
+            map.now ≡ segment_map_bytes self.old.avar.now self.old.axis) }
+        ensures avar { self.new.avar.now ≡ self.old.avar.now }
+        ensures axis { MatchOption result (self.new.axis ≡ self.old.axis)
+            (λ _. self.new.axis ≡ self.old.axis + 1) }
+    {
+        if self.axis >= u16::read_at(self.avar, 6)? {
+            return None;
+        }
+        let count = usize::from(u16::read_at(self.avar, self.start)?);
+        let map = self.avar.get(self.start + 2..)?.get(..4 * count)?;
+        *self = SegmentMaps {
+            avar: self.avar,
+            axis: self.axis + 1,
+            start: self.start + 2 + 4 * count,
+        };
+        Some(map)
+    }
 }
 
 // A mapping of a segment map, in 16.16.

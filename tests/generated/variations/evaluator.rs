@@ -5,8 +5,8 @@
 use crate::font_types::{F2Dot14, Fixed, NameId, Tag};
 use crate::std_for_tests::test::Fail;
 use crate::variations::evaluator::{
-    VariationAxisRecord, final_coordinate, map_coordinate, normalize, read_axis, segment_map,
-    to_stored,
+    SegmentMaps, VariationAxisRecord, final_coordinate, map_coordinate, normalize, read_axis,
+    segment_map, to_stored,
 };
 
 #[test]
@@ -128,4 +128,15 @@ fn segment_maps() {
         }
     }
     assert!(rt; segment_map(&AVAR, 3).is_none());
+    for len in 0..=AVAR.len() {
+        let mut maps = SegmentMaps::new(&AVAR[..len]);
+        for axis in 0..4 {
+            let there = segment_map(&AVAR[..len], axis);
+            assert!(rt; maps.next_map() == there, "{axis} of {len} bytes");
+            if there.is_none() {
+                break;
+            }
+        }
+        assert!(rt; maps.next_map().is_none());
+    }
 }

@@ -29,6 +29,8 @@ use crate::definitions::variations::Evaluator::IsStoredCoordinate;
 #[cfg(doc)]
 use crate::definitions::variations::Evaluator::ParsesSetting;
 #[cfg(doc)]
+use crate::definitions::variations::Evaluator::map_offset;
+#[cfg(doc)]
 use crate::definitions::variations::Evaluator::segment_map_bytes;
 
 use font_types_proved::{DecimalFault, F2Dot14, Fixed, InvalidTag, NameId, Scalar, Tag};
@@ -243,8 +245,8 @@ pub fn to_stored(coordinate: Fixed) -> F2Dot14 {
 /// Finds the mappings of an axis in a table `avar`, each of four bytes. Returns `None` if the table
 /// has no such axis, or ends before the map of the axis does.
 ///
-/// The maps of the axes before it are walked. So one call for each axis takes a time that grows as
-/// the square of the number of axes. The version of the table is not read: it has to be 1.
+/// The maps of the axes before it are walked, so for all axes use [`SegmentMaps`]. The version of
+/// the table is not read: it has to be 1.
 ///
 /// <details><summary>Contract</summary>
 ///
@@ -265,6 +267,68 @@ pub fn segment_map(avar: &[u8], axis: u16) -> Option<&[u8]> {
     }
     let count = u16::read_at(avar, start)?;
     avar.get(start + 2..)?.get(..4 * usize::from(count))
+}
+
+/// The segment maps of a table `avar`, one axis after another, each found in the same time. The
+/// version of the table is not read: it has to be 1.
+///
+/// The source and its contracts: `crates/variations/src/evaluator.rt`.
+///
+/// <details><summary>Contract</summary>
+///
+/// ```text
+/// ghost there: { start ≡ map_offset avar.now axis },
+/// ```
+/// [Notation](crate::definitions): [`map_offset`]
+/// </details>
+#[derive(Clone, Copy, Debug)]
+pub struct SegmentMaps<'a> {
+    avar: &'a [u8],
+    axis: u16,
+    start: usize,
+}
+
+impl<'a> SegmentMaps<'a> {
+    /// Starts before the first axis.
+    ///
+    /// <details><summary>Contract</summary>
+    ///
+    /// ```text
+    /// ensures avar { result.avar.now ≡ avar.now }
+    /// ensures axis { result.axis ≡ 0 }
+    /// ```
+    /// [Notation](crate::definitions)
+    /// </details>
+    #[must_use]
+    pub fn new(avar: &'a [u8]) -> SegmentMaps<'a> {
+        SegmentMaps { avar, axis: 0, start: 8 }
+    }
+
+    /// Returns the mappings of the next axis, as [`segment_map`] does. After a `None`, each further
+    /// call returns `None`.
+    ///
+    /// <details><summary>Contract</summary>
+    ///
+    /// ```text
+    /// ensures variant { IsSome result ↔ HasSegmentMap self.old.avar.now self.old.axis }
+    /// ensures value { IfSome result (λ map.
+    ///     map.now ≡ segment_map_bytes self.old.avar.now self.old.axis) }
+    /// ensures avar { self.new.avar.now ≡ self.old.avar.now }
+    /// ensures axis { MatchOption result (self.new.axis ≡ self.old.axis)
+    ///     (λ _. self.new.axis ≡ self.old.axis + 1) }
+    /// ```
+    /// [Notation](crate::definitions): [`HasSegmentMap`], [`segment_map_bytes`]
+    /// </details>
+    pub fn next_map(&mut self) -> Option<&'a [u8]> {
+        if self.axis >= u16::read_at(self.avar, 6)? {
+            return None;
+        }
+        let count = usize::from(u16::read_at(self.avar, self.start)?);
+        let map = self.avar.get(self.start + 2..)?.get(..4 * count)?;
+        *self =
+            SegmentMaps { avar: self.avar, axis: self.axis + 1, start: self.start + 2 + 4 * count };
+        Some(map)
+    }
 }
 
 // A mapping of a segment map, in 16.16.

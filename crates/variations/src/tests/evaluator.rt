@@ -1,8 +1,8 @@
 //! An evaluator of variations: what `tests/examples.rs` does not see.
 
 use crate::evaluator::{
-    VariationAxisRecord, final_coordinate, map_coordinate, normalize, read_axis, segment_map,
-    to_stored,
+    SegmentMaps, VariationAxisRecord, final_coordinate, map_coordinate, normalize, read_axis,
+    segment_map, to_stored,
 };
 use font_types::{F2Dot14, Fixed, NameId, Tag};
 use std::test::Fail;
@@ -124,4 +124,15 @@ fn segment_maps(rt: HostRuntime) {
         }
     }
     assert!(rt; segment_map(&AVAR, 3).is_none());
+    for len in 0..=AVAR.len() {
+        let mut maps = SegmentMaps::new(&AVAR[..len]);
+        for axis in 0..4 {
+            let there = segment_map(&AVAR[..len], axis);
+            assert!(rt; maps.next_map() == there, "{axis} of {len} bytes");
+            if there.is_none() {
+                break;
+            }
+        }
+        assert!(rt; maps.next_map().is_none());
+    }
 }
