@@ -87,14 +87,14 @@ impl<T: Scalar> RecordField for T {
     fn read_field(bytes: &[u8], next: &mut usize) -> Self {
         let start = *next;
         *next += T::RAW_BYTE_LEN;
-        T::read_at(bytes, start).unwrap()
+        T::read(&bytes[start..*next]).unwrap()
     }
 
     #[inline]
     fn write_field(self, bytes: &mut [u8], next: &mut usize) {
         let start = *next;
         *next += T::RAW_BYTE_LEN;
-        self.write_at(bytes, start).unwrap();
+        bytes[start..*next].copy_from_slice(self.to_raw().as_slice());
     }
 }
 
