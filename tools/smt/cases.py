@@ -203,16 +203,22 @@ deltas("Fixed", "i32", "from_bits", "to_bits")
 deltas("F2Dot14", "i16", "from_bits", "to_bits")
 deltas("FWord", "i16", "new", "to_i16")
 deltas("UfWord", "u16", "new", "to_u16")
-TWO = ("{{ let mut sum = DeltaSum::new(); sum.add(Fixed::from_bits(x), y);"
-       " sum.add(Fixed::from_bits(s), t); sum.{} }}")
-case("DeltaSum::add", "x: i32, y: i32, s: i32, t: i32", "?i64",
-     TWO.format("checked_finish().map(F48Dot16::to_bits)"), lambda p, *v: checked(64, p.sum(*v)))
-case("DeltaSum::finish", "x: i32, y: i32, s: i32, t: i32", "i64", TWO.format("finish().to_bits()"),
-     lambda p, *v: wrap(64, p.sum(*v)))
-case("DeltaSum +=", "x: i32, y: i32, s: i32, t: i32", "i64",
-     "{ let mut a = DeltaSum::new(); a.add(Fixed::from_bits(x), y); let mut b = DeltaSum::new();"
-     " b.add(Fixed::from_bits(s), t); a += b; a.finish().to_bits() }",
-     lambda p, *v: wrap(64, p.sum(*v)))
+# Of any sum: it is a number of 128 bits, and has one field.
+SUM, NUMBER = "core::mem::transmute::<i128, DeltaSum>({})", "core::mem::transmute::<DeltaSum, i128>({})"
+NEXT = f"unsafe {{{{ let mut sum = {SUM.format('n')}; {{}}; {NUMBER.format('sum')} }}}}"
+case("DeltaSum::new", "x: i32, y: i32", "i128",
+     "unsafe { let mut sum = DeltaSum::new(); sum.add(Fixed::from_bits(x), y);"
+     f" {NUMBER.format('sum')} }}", lambda p, x, y: wrap(128, p.times(x, y)))
+case("DeltaSum::add", "n: i128, x: i32, y: i32", "i128",
+     NEXT.format("sum.add(Fixed::from_bits(x), y)"),
+     lambda p, n, x, y: wrap(128, S(n) + p.times(x, y)))
+case("DeltaSum +=", "n: i128, m: i128", "i128", NEXT.format(f"sum += {SUM.format('m')}"),
+     lambda p, n, m: wrap(128, S(n) + S(m)))
+case("DeltaSum::finish", "n: i128", "i64",
+     f"unsafe {{ {SUM.format('n')} }}.finish().to_bits()", lambda p, n: wrap(64, S(n)))
+case("DeltaSum::checked_finish", "n: i128", "?i64",
+     f"unsafe {{ {SUM.format('n')} }}.checked_finish().map(F48Dot16::to_bits)",
+     lambda p, n: checked(64, S(n)))
 case("delta_sum", "terms: terms", "i64", "delta_sum(terms).to_bits()",
      lambda p, terms: terms.all(64))
 case("checked_delta_sum", "terms: terms", "?i64",
