@@ -72,6 +72,8 @@ def faults(root: Path, files: dict[str, str], lines: dict[str, list[str]]) -> It
             rust, source = (re.sub(pattern, new, it) for it in (rust, source))
         if rust.count("# [ repr") != source.count("# [ repr"):
             yield f"{path}: layouts of other types than in its source"
+        if rust.count('extern "C" fn') != source.count('extern "C" fn'):
+            yield f"{path}: other exports than in its source"
         for it in DECLARED.findall(rust):
             is_import = it.startswith("use ")  # which rustfmt sorts
             found = source.find(it, 0 if is_import else at)

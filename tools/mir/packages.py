@@ -4,6 +4,7 @@ import os
 import re
 import subprocess
 import tempfile
+import tomllib
 from collections.abc import Iterator
 from pathlib import Path
 
@@ -29,9 +30,25 @@ STAND_INS = r"(?<!:)\bhost(?=::(?:alloc::(?:AllocError|Vec)|hex)\b)"
 # or a type, a file that is not generated, and a macro of std.
 FOREIGN = re.compile(
     r"\bmod\s+(?:r#)?(?:core|std|alloc|bool|char|str|[iu](?:\d+|size))\b|\binclude!|"
-    r"\bmacro_rules!\s*(?:assert|matches|write)\b|"
-    r'\bpath\s*=\s*r?#*"(?!(?:\.\./\.\./src/)?generated/)'
+    r"\bmacro_rules\s*!\s*(?:r#)?(?:assert|matches|write)\b|\bmacro_use\b|\bextern\s+crate\b|"
+    r"\bcfg(?:_attr)?\s*\((?!\s*(?:doc|doctest|target_pointer_width = \"16\"|all\(target_os = )[^\w])|"
+    r'\bpath\s*=\s*r?#*"(?!(?:\.\./\.\./src/)?generated/[\w/]+\.rs")'
 )
+
+# What cargo reads beside `Cargo.toml`; of that, what is not built here, and what is.
+CONFIGURATION = ".cargo", "build.rs", "rust-toolchain", "rust-toolchain.toml"
+UNBUILT = {"dev-dependencies", "profile", "workspace"}
+BUILT = {"name", "edition", "build", "links", "autolib", "autobins"}
+PROGRAM = {"name": "fontval", "path": "src/bin/fontval/main.rs", "doc": False}
+LIBRARY_FOR_C = {"name": "font_types", "crate-type": ["staticlib"], "test": False}
+MANIFESTS = {
+    ".": {"package": {"name": "font-types-proved", "edition": "2024"}, "bin": [PROGRAM]},
+    "variations": {
+        "package": {"name": "font-variations-proved", "edition": "2024"},
+        "dependencies": {"font-types-proved": {"path": ".."}},
+    },
+    "c": {"package": {"name": "font-types-c", "edition": "2024"}, "lib": LIBRARY_FOR_C},
+}
 
 EXPORT = r"^pub use ([\w:]+)::(\w+|\{[^}]*\});"
 
@@ -46,10 +63,17 @@ class Sources:
         self.crates, self.modules, self.lines, self.files = {}, set(), {}, {}
         self.by_hand = declared.words((root / "src/lib.rs").read_text(), "crate").split()
         for package, _, folder, module in PACKAGES:
-            if any((root / package / it).exists() for it in (".cargo", "build.rs")):
+            if any((root / package / it).exists() for it in CONFIGURATION):
                 raise ValueError(f"{package} has what changes how cargo builds it")
+            text = re.sub(r', version = ".*?"', "", (root / package / "Cargo.toml").read_text())
+            manifest = tomllib.loads(text)
+            built = {key: it for key, it in manifest.items() if key not in UNBUILT}
+            built["package"] = {key: it for key, it in manifest["package"].items() if key in BUILT}
+            if built != MANIFESTS[package]:
+                raise ValueError(f"{package}/Cargo.toml builds otherwise: {built}")
             for path in (root / package / "src").rglob("*.rs"):
-                if path.parent.name != "host" and (found := FOREIGN.search(path.read_text())):
+                is_host = path.parent == root / "src/bin/fontval/host"
+                if not is_host and (found := FOREIGN.search(path.read_text())):
                     raise ValueError(f"{path}: what could be another than it reads: `{found[0]}`")
             for path in sorted((root / folder).rglob("*.rs")):
                 text, first = path.read_text(), module or path.relative_to(root / folder).parts[0]

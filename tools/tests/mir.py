@@ -101,7 +101,7 @@ EDITS = [
     (PADDING, "    Left,", "    Left = 0x0,", "`enum Align { Left = 0x0 , Center , Right }`"),
     (PADDING, "pub plus: bool", "pub zeros: bool", "`pub zeros : bool "),
     (IDS, "fn to_u32(self) -> u32", "fn to_u32(self) -> i32", "- > i32 `"),
-    (IDS, "fn to_u32", "#[cfg(debug_assertions)]\n    fn to_u32", "`# [ cfg ( debug"),
+    (IDS, "fn to_u32", "#[cfg(debug_assertions)]\n    fn to_u32", "`cfg(`"),
     (IDS, "self.0 as u32", 'if cfg!(panic = "abort") { 1 } else { 2 }', "`cfg ! ( panic"),
     (IDS, "self.0 as u32", 'option_env!("A").map_or(1, |_| 2)', "`option_env ! ("),
     (IDS, "self.0 as u32", "{ type T = u32; self.0 as T }", "`type T = u32 ;`"),
@@ -117,6 +117,15 @@ EDITS = [
     ("src/lib.rs", "mod literal;", "macro_rules! assert { () => {} }", "`macro_rules! assert`"),
     ("c/src/lib.rs", "mod font_base;", "mod font_base;\nmod core {}", "`mod core`"),
     ("c/src/lib.rs", "src/generated/font_geom", "src/other/font_geom", "`path ="),
+    ("c/src/lib.rs", "src/generated/font_geom", "src/generated/../font_geom", "`path ="),
+    ("src/lib.rs", "[path =", "[cfg_attr(not(debug_assertions), path =", "`cfg_attr(`"),
+    ("src/lib.rs", "mod literal;", "macro_rules ! matches { () => {} }", "`macro_rules ! matches`"),
+    ("src/lib.rs", "mod literal;", "#[macro_use]\nmod literal;", "`macro_use`"),
+    ("src/lib.rs", "mod literal;", "extern crate other as core;", "`extern crate`"),
+    (FORMAT, 'extern "C" ', "", "other exports"),
+    ("Cargo.toml", "[dev-", '[dependencies]\ncore = { path = "core" }\n[dev-', "builds otherwise"),
+    ("Cargo.toml", "publish =", 'build = "src/make.rs"\npublish =', "builds otherwise"),
+    ("variations/Cargo.toml", 'path = ".."', 'path = "vendor"', "builds otherwise"),
 ]
 
 # Functions that are refused, not compared: they read through one of several locals or references,
@@ -158,8 +167,9 @@ class Mir(unittest.TestCase):
     def test_declarations(self) -> None:
         with tempfile.TemporaryDirectory() as room:
             root = pathlib.Path(room)
-            for name in ("src", "c/src", "variations/src"):
-                shutil.copytree(ROOT / name, root / name)
+            for name in ("", "c", "variations"):
+                shutil.copytree(ROOT / name / "src", root / name / "src")
+                shutil.copy(ROOT / name / "Cargo.toml", root / name)
             (root / "crates").symlink_to(ROOT / "crates")
             self.assertEqual(refusal(root), "")
             for name, old, new, word in EDITS:
