@@ -81,7 +81,7 @@ def main() -> int:
     sys.setrecursionlimit(20000)
     if options.mutants:
         return int(faults.report(options.tree, options.only) > 0)
-    for name, lemma in (*arithmetic.lemmas(), *rules.lemmas()):
+    for name, lemma in (*arithmetic.lemmas(), *rules.lemmas(), *rules.bounds()):
         solver = z3.Solver()
         solver.add(z3.Not(lemma))
         if solver.check() != z3.unsat:
