@@ -45,6 +45,8 @@ class Function:
 
     def is_called(self, type_: str, name: str, rust: str) -> bool:
         """Returns whether a row calls the function of a type."""
+        if re.search(r"\bFn", self.text):
+            return False  # A row that calls `map` calls that of `Option`.
         operator = self.trait.split("<")[0]
         if operator == "Neg":
             return name == f"-{type_}"
