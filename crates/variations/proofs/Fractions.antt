@@ -6,10 +6,10 @@ use Rattle.std.proofs.lemmas.Int.{ints, by_lt_z}
 use Rattle.std.proofs.lemmas.Bool.Decides.{not_from_Decides, nat_tests}
 use Rattle.std.specs.Ordering.{int_eq}
 use borrow.Author.Differences.{up as above, down as below, sum_is_lem, product_is}
-use Rattle.font_types.specs.Operations.{IsProduct, IsQuotient, IsWrappedNear}
+use Rattle.font_types.specs.Operations.{IsMulDiv, IsWrappedNear}
 use Rattle.font_types.specs.{Wrap.FitsBits, Near.Near, Near.up}
-use Rattle.font_types.proofs.Callers.{near_is, near_monotone, product_near, wrap-fits}
-use Rattle.variations.specs.Variations.{Fraction, whole, part_of, times, plus, IsOffBy, IsAxisScalar, is_ignored_axis}
+use Rattle.font_types.proofs.Callers.{near_monotone, wrap-fits}
+use Rattle.variations.specs.Variations.{Fraction, whole, part_of, times, plus, IsOffBy, IsScalarAfter, is_ignored_axis}
 use Rattle.variations.specs.Variations.{exact_axis_scalar}
 use Rattle.variations.proofs.Scalars.{less, at_one, off}
 
@@ -28,133 +28,127 @@ pub record IsPartOff (halves : ℕ) (raw : ℤ) (exact : Fraction) : Type 0 wher
 pub off_by : (k : ℕ) (raw : ℤ) (x : Fraction) → IsPartOff k raw x → IsOffBy k raw x
 off_by k raw x off = record { some = off.some; close = rw (off.is_bits, off.is_part) off.close }
 
--- ---- one axis
+-- ---- one more axis
 
-whole_is : (n : ℕ) (raw : ℤ) → n ≤ 1 → raw ≡ pos (n * 65536) → IsPartOff 1 raw (whole (pos n))
-whole_is n raw to is = grind arith
+product_some : (d e : ℕ) → 0 < d → 0 < e → 0 < d * e
+product_some d e d_some e_some = grind arith
 
--- a rounded quotient of a part by its whole
-module _ (a d : ℕ) (raw : ℤ) (to : a ≤ suc d) (given : IsWrappedNear 32 (pos a *ℤ pos 65536) (suc d) raw) where
+product_to : (a b c d : ℕ) → a ≤ b → c ≤ d → a * c ≤ b * d
+product_to a b c d first second = omega (arith, mul-le-mul_right c first, mul-le-mul_right b second)
+
+-- what a bound on a distance says of each side
+sides : (a b c : ℕ) → 2 * unsigned_abs (pos a -ℤ pos b) ≤ c → (2 * a ≤ 2 * b + c) × (2 * b ≤ 2 * a + c)
+sides a b c close = (omega (arith, ints, close), omega (arith, ints, close))
+
+pub one_off : IsPartOff 0 (pos 65536) (whole (pos 1))
+one_off = record {
+  bits = 65536;
+  is_bits = refl;
+  to = omega arith;
+  part = 1;
+  is_part = refl;
+  part_to = omega arith;
+  some = omega arith;
+  close = omega (arith, ints);
+}
+
+-- a scalar s is off n / q by k halves, and r is s * a / d, rounded
+module _ (k s a r n q d : ℕ) (to : a ≤ d) (rounded : 2 * unsigned_abs (pos r *ℤ pos d -ℤ pos s *ℤ pos a) ≤ d)
+    (so_far : 2 * unsigned_abs (pos s *ℤ pos q -ℤ pos n *ℤ pos 65536) ≤ k * q) where
+  share_error : 2 * unsigned_abs (pos r *ℤ pos (q * d) -ℤ pos (n * a) *ℤ pos 65536) ≤ (k + 1) * (q * d)
+  share_error =
+      let last = sides (r * d) (s * a) d rounded in
+      let before = sides (s * q) (n * 65536) (k * q) so_far in
+      omega (
+        arith,
+        ints,
+        mul-le-mul_right q last.0,
+        mul-le-mul_right q last.1,
+        mul-le-mul_right a before.0,
+        mul-le-mul_right a before.1,
+        mul-le-mul_right (k * q) to,
+      )
+
+-- a scalar times a part of a way, rounded
+module _ (s a d : ℕ) (raw : ℤ) (s_to : s ≤ 65536) (to : a ≤ suc d)
+    (given : IsWrappedNear 32 (pos s *ℤ pos a) (suc d) raw) where
   d_some : 0 < suc d
   d_some = omega arith
 
   exact_at : (q : ℤ) → Near (q *ℤ pos (suc d)) (suc d) q
   exact_at q = omega (arith, ints)
 
-  quotient_from : pos 0 ≤ℤ given.rounded
-  quotient_from = near_monotone d_some d_some (exact_at (pos 0)) given.nearest (omega (arith, ints))
+  share_from : pos 0 ≤ℤ given.rounded
+  share_from = near_monotone d_some d_some (exact_at (pos 0)) given.nearest (omega (arith, ints))
 
-  widest : a * 65536 * suc d ≤ suc d * 65536 * suc d
-  widest = omega (arith, mul-le-mul_right (suc d) to)
+  widest : s * a * suc d ≤ 65536 * suc d * suc d
+  widest = mul-le-mul_right (suc d) (product_to s 65536 a (suc d) s_to to)
 
-  quotient_to : given.rounded ≤ℤ pos 65536
-  quotient_to = near_monotone d_some d_some given.nearest (exact_at (pos 65536)) (omega (arith, ints, widest))
+  share_to : given.rounded ≤ℤ pos 65536
+  share_to = near_monotone d_some d_some given.nearest (exact_at (pos 65536)) (omega (arith, ints, widest))
 
-  quotient_fits : FitsBits 32 given.rounded
-  quotient_fits = record { low = omega (arith, ints, quotient_from); high = omega (arith, ints, quotient_to) }
+  share_fits : FitsBits 32 given.rounded
+  share_fits = record { low = omega (arith, ints, share_from); high = omega (arith, ints, share_to) }
 
-  quotient_is : raw ≡ given.rounded
-  quotient_is = given.wrapped ∙ wrap-fits 32 given.rounded (lit< tt) quotient_fits
+  share_is : raw ≡ given.rounded
+  share_is = given.wrapped ∙ wrap-fits 32 given.rounded (lit< tt) share_fits
 
-  near_quotient : (r : ℤ) → raw ≡ r → Near (pos a *ℤ pos 65536) (suc d) r → pos 0 ≤ℤ r → r ≤ℤ pos 65536
-      → IsPartOff 1 raw (part_of (pos a) (pos (suc d)))
-  near_quotient r is near low high = grind arith
+-- one more axis, along which the exact scalar is another fraction
+module _ (k : ℕ) (before : ℤ) (x : Fraction) (so_far : IsPartOff k before x) where
+  kept : IsPartOff (k + 1) before (times x (whole (pos 1)))
+  kept = grind arith
 
-  pub quotient_off : IsPartOff 1 raw (part_of (pos a) (pos (suc d)))
-  quotient_off = near_quotient given.rounded quotient_is given.nearest quotient_from quotient_to
+  none : IsPartOff (k + 1) (pos 0) (times x (whole (pos 0)))
+  none = grind arith
 
-part_is : (part way raw : ℤ) → pos 0 ≤ℤ part → part ≤ℤ way → pos 0 <ℤ way → IsQuotient 32 16 part way raw
-    → IsPartOff 1 raw (part_of part way)
-part_is part way raw from to some given = grind (arith, quotient_off)
+  share_at : (a d : ℕ) (raw r : ℤ) → raw ≡ r → a ≤ suc d → pos 0 ≤ℤ r → r ≤ℤ pos 65536
+      → 2 * unsigned_abs (r *ℤ pos (suc d) -ℤ pos so_far.bits *ℤ pos a) ≤ suc d
+      → IsPartOff (k + 1) raw (times x (part_of (pos a) (pos (suc d))))
+  share_at a d raw (pos r) is to low high rounded = record {
+    bits = r;
+    is_bits = is;
+    to = omega (arith, ints, high);
+    part = so_far.part * a;
+    is_part = ap (λ n. n *ℤ pos a) so_far.is_part;
+    part_to = product_to so_far.part x.denominator a (suc d) so_far.part_to to;
+    some = product_some x.denominator (suc d) so_far.some (omega arith);
+    close = share_error k so_far.bits a r so_far.part x.denominator (suc d) to rounded so_far.close;
+  }
+  share_at a d raw (negsuc r) is to low high rounded = absurd (omega (arith, ints, low))
 
-module _ (start peak end coordinate raw : ℤ) (given : IsAxisScalar start peak end coordinate raw) where
-  by : (one outside rising : Bool) → (is_ignored_axis start peak end || int_eq coordinate peak) ≡ one
-      → (int_le coordinate start || int_le end coordinate) ≡ outside → int_lt coordinate peak ≡ rising
-      → IsPartOff 1 raw (if one then whole (pos 1) else (if outside then whole (pos 0)
-      else (if rising then part_of (coordinate -ℤ start) (peak -ℤ start)
-      else part_of (end -ℤ coordinate) (end -ℤ peak))))
-  by true outside rising one _ _ =
-      whole_is 1 raw (omega arith) (⊎_elim given.ignored given.at_peak ((at_one start peak end coordinate).0 one))
-  by false true rising one outside _ =
-      let away = not_from_Decides _ (at_one start peak end coordinate) one in
-      whole_is 0 raw (omega arith) (given.outside (λ i. away (inl i)) (λ e. away (inr e))
-      ((off start peak end coordinate).0 outside))
-  by false false true one outside up_to =
-      let away = not_from_Decides _ (at_one start peak end coordinate) one in
-      let inside = not_from_Decides _ (off start peak end coordinate) outside in
-      let before : coordinate <ℤ peak = (less coordinate peak).0 up_to in
-      let after : start <ℤ coordinate = by_lt_z start coordinate (λ h. h) (λ h. absurd (inside (inl h))) in
-      part_is (coordinate -ℤ start) (peak -ℤ start) raw (omega (arith, ints, after)) (omega (arith, ints, before))
-      (omega (arith, ints, after, before)) (given.rising (λ i. away (inl i)) after before)
-  by false false false one outside up_to = grind (arith, nat_tests, ints, off start peak end coordinate, part_is)
+  share_off : (a d : ℕ) (raw : ℤ) → a ≤ suc d → IsWrappedNear 32 (pos so_far.bits *ℤ pos a) (suc d) raw
+      → IsPartOff (k + 1) raw (times x (part_of (pos a) (pos (suc d))))
+  share_off a d raw to given = share_at a d raw given.rounded (share_is so_far.bits a d raw so_far.to to given) to
+      (share_from so_far.bits a d raw so_far.to to given) (share_to so_far.bits a d raw so_far.to to given)
+      given.nearest.close
 
-pub axis_off : (start peak end coordinate raw : ℤ) → IsAxisScalar start peak end coordinate raw
-    → IsPartOff 1 raw (exact_axis_scalar start peak end coordinate)
-unfolding exact_axis_scalar
-axis_off start peak end coordinate raw given = by start peak end coordinate raw given _ _ _ refl refl refl
+  part_off : (part way raw : ℤ) → pos 0 ≤ℤ part → part ≤ℤ way → pos 0 <ℤ way → IsMulDiv 32 before part way raw
+      → IsPartOff (k + 1) raw (times x (part_of part way))
+  part_off part way raw from to some given = grind (arith, share_off)
 
--- ---- a product
+  module _ (start peak end coordinate raw : ℤ) (given : IsScalarAfter start peak end coordinate before raw) where
+    by : (one outside rising : Bool) → (is_ignored_axis start peak end || int_eq coordinate peak) ≡ one
+        → (int_le coordinate start || int_le end coordinate) ≡ outside → int_lt coordinate peak ≡ rising
+        → IsPartOff (k + 1) raw (times x (if one then whole (pos 1) else (if outside then whole (pos 0)
+        else (if rising then part_of (coordinate -ℤ start) (peak -ℤ start)
+        else part_of (end -ℤ coordinate) (end -ℤ peak)))))
+    by true outside rising one _ _ =
+        rw (⊎_elim given.ignored given.at_peak ((at_one start peak end coordinate).0 one)) kept
+    by false true rising one outside _ =
+        let away = not_from_Decides _ (at_one start peak end coordinate) one in
+        rw (given.outside (λ i. away (inl i)) (λ e. away (inr e)) ((off start peak end coordinate).0 outside)) none
+    by false false true one outside up_to =
+        let away = not_from_Decides _ (at_one start peak end coordinate) one in
+        let inside = not_from_Decides _ (off start peak end coordinate) outside in
+        let before : coordinate <ℤ peak = (less coordinate peak).0 up_to in
+        let after : start <ℤ coordinate = by_lt_z start coordinate (λ h. h) (λ h. absurd (inside (inl h))) in
+        part_off (coordinate -ℤ start) (peak -ℤ start) raw (omega (arith, ints, after)) (omega (arith, ints, before))
+        (omega (arith, ints, after, before)) (given.rising (λ i. away (inl i)) after before)
+    by false false false one outside up_to = grind (arith, nat_tests, ints, off start peak end coordinate, part_off)
 
-product_some : (d e : ℕ) → 0 < d → 0 < e → 0 < d * e
-product_some d e d_some e_some = grind arith
-
--- what a bound on a distance says of each side
-sides : (a b c : ℕ) → 2 * unsigned_abs (pos a -ℤ pos b) ≤ c → (2 * a ≤ 2 * b + c) × (2 * b ≤ 2 * a + c)
-sides a b c close = (omega (arith, ints, close), omega (arith, ints, close))
-
--- s is off n / q by k halves, t off p / d by one, and r off s * t by one
-module _ (k s t r q p d : ℕ) (s_to : s ≤ 65536) (p_to : p ≤ d)
-    (rounded : 2 * unsigned_abs (pos r *ℤ pos 65536 -ℤ pos s *ℤ pos t) ≤ 65536)
-    (close : 2 * unsigned_abs (pos t *ℤ pos d -ℤ pos p *ℤ pos 65536) ≤ d) where
-  product_error : (n : ℕ) → 2 * unsigned_abs (pos s *ℤ pos q -ℤ pos n *ℤ pos 65536) ≤ k * q
-      → 2 * unsigned_abs (pos r *ℤ pos (q * d) -ℤ pos (n * p) *ℤ pos 65536) ≤ (k + 2) * (q * d)
-  product_error n so_far =
-      let product = sides (r * 65536) (s * t) 65536 rounded in
-      let factor = sides (t * d) (p * 65536) d close in
-      let scalar = sides (s * q) (n * 65536) (k * q) so_far in
-      omega (
-        arith,
-        ints,
-        mul-le-mul_right (q * d) product.0,
-        mul-le-mul_right (q * d) product.1,
-        mul-le-mul_right (s * q) factor.0,
-        mul-le-mul_right (s * q) factor.1,
-        mul-le-mul_right (d * q) s_to,
-        mul-le-mul_right (k * q) p_to,
-        mul-le-mul_right p scalar.0,
-        mul-le-mul_right p scalar.1,
-      )
-
--- a product of numbers from 0 to 1 is off by half a unit at most
-rounding_error : (s t : ℕ) (r : ℤ) → s ≤ 65536 → t ≤ 65536 → IsProduct 32 16 (pos s) (pos t) r
-    → 2 * unsigned_abs (r *ℤ pos 65536 -ℤ pos s *ℤ pos t) ≤ 65536
-rounding_error s t r s_to t_to product =
-    let is = product_near 32 16 65536 65536 65536 (pos s) (pos t) r (lit< tt) product s_to t_to (omega arith)
-    (lit< tt) in
-    rw is (near_is (pos s *ℤ pos t) 65536 (lit< tt)).close
-
-module _ (k : ℕ) (s t : ℤ) (x y : Fraction) (so_far : IsPartOff k s x) (next : IsPartOff 1 t y) where
-  both_to : so_far.part * next.part ≤ x.denominator * y.denominator
-  both_to = omega (arith, mul-le-mul_right next.part so_far.part_to, mul-le-mul_right x.denominator next.part_to)
-
-  scaled_to : so_far.bits * next.bits ≤ 65536 * 65536
-  scaled_to = omega (arith, mul-le-mul_right next.bits so_far.to, next.to)
-
-  times_off : (r : ℤ) → 2 * unsigned_abs (r *ℤ pos 65536 -ℤ pos so_far.bits *ℤ pos next.bits) ≤ 65536
-      → IsPartOff (k + 2) r (times x y)
-  times_off (pos r) rounded = grind (arith, scaled_to, both_to, product_some, product_error)
-  times_off (negsuc r) rounded = absurd (omega (arith, ints, rounded))
-
-  pub next_axis_off : (r : ℤ) → IsProduct 32 16 s t r → IsPartOff (k + 2) r (times x y)
-  next_axis_off r product = grind (arith, times_off, rounding_error)
-
-module _ (t : ℤ) (y : Fraction) (next : IsPartOff 1 t y) where
-  first_off : (r : ℤ) → 2 * unsigned_abs (r *ℤ pos 65536 -ℤ pos 65536 *ℤ pos next.bits) ≤ 65536
-      → IsPartOff 1 r (times (whole (pos 1)) y)
-  first_off r rounded = grind arith
-
-  pub first_axis_off : (r : ℤ) → IsProduct 32 16 (pos 65536) t r → IsPartOff 1 r (times (whole (pos 1)) y)
-  first_axis_off r product = grind (arith, first_off, rounding_error)
+    pub next_axis_off : IsPartOff (k + 1) raw (times x (exact_axis_scalar start peak end coordinate))
+    unfolding exact_axis_scalar
+    next_axis_off = by _ _ _ refl refl refl
 
 -- ---- sums
 

@@ -1,32 +1,32 @@
 -- The scalar of a region has one value, which the functions give.
-use Rattle.std.proofs.Common.{◌≡◌, ◌≢◌, refl, lit<, ℕ, zero, suc, ◌+◌, ◌*◌, ◌<◌, ◌⊎◌, Bool, true, false, ℤ, pos, negsuc}
+use Rattle.std.proofs.Common.{◌≡◌, ◌≢◌, refl, ℕ, zero, suc, ◌<◌, ◌⊎◌, Bool, true, false, ℤ, pos, negsuc}
 use Rattle.std.proofs.Common.{◌-ℤ◌, ◌*ℤ◌, ◌≤ℤ◌, ◌<ℤ◌, int_lt, int_le, arith, Decides, List, length, get_or, ⊎_elim, inl}
 use Rattle.std.proofs.Common.{inr, if◌then◌else◌, ◌||◌}
 use Rattle.std.proofs.lemmas.Int.{ints, by_lt_z}
 use Rattle.std.proofs.lemmas.Bool.Decides.{Decides-or, Decides-int_eq, not_from_Decides}
 use Rattle.std.specs.Ordering.{int_eq}
-use Rattle.font_types.specs.{Operations.IsQuotient, Near.near, F2Dot14.F2Dot14, Fixed.Fixed, Fixed.fixed_bits}
+use Rattle.font_types.specs.{Operations.IsMulDiv, Near.near, F2Dot14.F2Dot14, Fixed.Fixed, Fixed.fixed_bits}
 use Rattle.font_types.proofs.Callers.{near_is}
-use Rattle.variations.specs.Variations.{IsIgnored, IsOffRegion, IsAxisScalar, is_ignored_axis, quotient, axis_scalar}
-use Rattle.variations.specs.Variations.{IsScalarOf, scalar_of, stored_bits, coordinate_bits, AreScalars, IsRegionScalar}
+use Rattle.variations.specs.Variations.{IsIgnored, IsOffRegion, IsScalarAfter, is_ignored_axis, share, scalar_after}
+use Rattle.variations.specs.Variations.{IsScalarOf, scalar_of, AreScalars, IsRegionScalar}
 use Rattle.variations.specs.Variations.{region_bytes, axis_count}
 
--- ---- a quotient
+-- ---- a share
 
-quotient_is : (x y r : ℤ) → pos 0 <ℤ y → IsQuotient 32 16 x y r → r ≡ quotient x y
-quotient_is x (pos zero) r some given = absurd (omega (arith, ints, some))
-quotient_is x (pos (suc c)) r some given = given.is
-quotient_is x (negsuc c) r some given = absurd (omega (arith, ints, some))
+share_is : (x a c r : ℤ) → pos 0 <ℤ c → IsMulDiv 32 x a c r → r ≡ share x a c
+share_is x a (pos zero) r some given = absurd (omega (arith, ints, some))
+share_is x a (pos (suc c)) r some given = given.is
+share_is x a (negsuc c) r some given = absurd (omega (arith, ints, some))
 
-quotient_gives : (x y : ℤ) → pos 0 <ℤ y → IsQuotient 32 16 x y (quotient x y)
-quotient_gives x (pos zero) some = absurd (omega (arith, ints, some))
-quotient_gives x (pos (suc c)) some = record {
-  rounded = near (x *ℤ pos 65536) (suc c);
-  nearest = near_is (x *ℤ pos 65536) (suc c) (omega arith);
+share_gives : (x a c : ℤ) → pos 0 <ℤ c → IsMulDiv 32 x a c (share x a c)
+share_gives x a (pos zero) some = absurd (omega (arith, ints, some))
+share_gives x a (pos (suc c)) some = record {
+  rounded = near (x *ℤ a) (suc c);
+  nearest = near_is (x *ℤ a) (suc c) (omega arith);
   wrapped = refl;
   is = refl;
 }
-quotient_gives x (negsuc c) some = absurd (omega (arith, ints, some))
+share_gives x a (negsuc c) some = absurd (omega (arith, ints, some))
 
 -- ---- one axis
 
@@ -65,36 +65,37 @@ module _ (start peak end coordinate : ℤ) where
   after_peak other kept = by_lt_z peak coordinate (λ h. h)
       (λ h. absurd (other (omega (arith, ints, h, by_lt_z coordinate peak (λ l. absurd (kept l)) (λ l. l)))))
 
-  abbrev value : Bool → Bool → Bool → ℤ
-  value one outside rising = if one then pos 65536 else (if outside then pos 0
-      else (if rising then quotient (coordinate -ℤ start) (peak -ℤ start)
-      else quotient (end -ℤ coordinate) (end -ℤ peak)))
+  abbrev value : Bool → Bool → Bool → ℤ → ℤ
+  value one outside rising before = if one then before else (if outside then pos 0
+      else (if rising then share before (coordinate -ℤ start) (peak -ℤ start)
+      else share before (end -ℤ coordinate) (end -ℤ peak)))
 
-  is_value : (raw : ℤ) → IsAxisScalar start peak end coordinate raw → (one outside rising : Bool)
+  is_value : (before raw : ℤ) → IsScalarAfter start peak end coordinate before raw → (one outside rising : Bool)
       → (is_ignored_axis start peak end || int_eq coordinate peak) ≡ one
       → (int_le coordinate start || int_le end coordinate) ≡ outside → int_lt coordinate peak ≡ rising
-      → raw ≡ value one outside rising
-  is_value raw given true outside rising one _ _ = ⊎_elim given.ignored given.at_peak (at_one.0 one)
-  is_value raw given false true rising one outside _ =
+      → raw ≡ value one outside rising before
+  is_value scalar raw given true outside rising one _ _ = ⊎_elim given.ignored given.at_peak (at_one.0 one)
+  is_value scalar raw given false true rising one outside _ =
       let away = not_from_Decides _ at_one one in
       given.outside (λ i. away (inl i)) (λ e. away (inr e)) (off.0 outside)
-  is_value raw given false false true one outside up_to =
+  is_value scalar raw given false false true one outside up_to =
       let away = not_from_Decides _ at_one one in
       let after = inside_low (not_from_Decides _ off outside) in
       let before : coordinate <ℤ peak = (less coordinate peak).0 up_to in
-      quotient_is (coordinate -ℤ start) (peak -ℤ start) raw (omega (arith, ints, after, before))
+      share_is scalar (coordinate -ℤ start) (peak -ℤ start) raw (omega (arith, ints, after, before))
       (given.rising (λ i. away (inl i)) after before)
-  is_value raw given false false false one outside up_to =
+  is_value scalar raw given false false false one outside up_to =
       let away = not_from_Decides _ at_one one in
       let before = inside_high (not_from_Decides _ off outside) in
       let after = after_peak (λ e. away (inr e)) (not_from_Decides _ (less coordinate peak) up_to) in
-      quotient_is (end -ℤ coordinate) (end -ℤ peak) raw (omega (arith, ints, after, before))
+      share_is scalar (end -ℤ coordinate) (end -ℤ peak) raw (omega (arith, ints, after, before))
       (given.falling (λ i. away (inl i)) after before)
 
-  gives_value : (one outside rising : Bool) → (is_ignored_axis start peak end || int_eq coordinate peak) ≡ one
+  gives_value : (scalar : ℤ) (one outside rising : Bool)
+      → (is_ignored_axis start peak end || int_eq coordinate peak) ≡ one
       → (int_le coordinate start || int_le end coordinate) ≡ outside → int_lt coordinate peak ≡ rising
-      → IsAxisScalar start peak end coordinate (value one outside rising)
-  gives_value true outside rising one _ _ =
+      → IsScalarAfter start peak end coordinate scalar (value one outside rising scalar)
+  gives_value scalar true outside rising one _ _ =
       let here = at_one.0 one in
       record {
         ignored = λ i. refl;
@@ -103,7 +104,7 @@ module _ (start peak end coordinate : ℤ) where
         rising = λ kept after before. absurd (⊎_elim kept (λ e. omega (arith, ints, e, before)) here);
         falling = λ kept after before. absurd (⊎_elim kept (λ e. omega (arith, ints, e, after)) here);
       }
-  gives_value false true rising one outside _ =
+  gives_value scalar false true rising one outside _ =
       let away = not_from_Decides _ at_one one in
       let here = off.0 outside in
       record {
@@ -115,7 +116,7 @@ module _ (start peak end coordinate : ℤ) where
         falling = λ kept after before. absurd (⊎_elim (λ h. omega (arith, ints, h, after, peak_low kept))
             (λ h. omega (arith, ints, h, before)) here);
       }
-  gives_value false false true one outside up_to =
+  gives_value scalar false false true one outside up_to =
       let away = not_from_Decides _ at_one one in
       let inside = not_from_Decides _ off outside in
       let first : coordinate <ℤ peak = (less coordinate peak).0 up_to in
@@ -123,11 +124,11 @@ module _ (start peak end coordinate : ℤ) where
         ignored = λ i. absurd (away (inl i));
         at_peak = λ e. absurd (away (inr e));
         outside = λ kept other off. absurd (inside off);
-        rising = λ kept after before. quotient_gives (coordinate -ℤ start) (peak -ℤ start)
+        rising = λ kept after before. share_gives scalar (coordinate -ℤ start) (peak -ℤ start)
             (omega (arith, ints, after, before));
         falling = λ kept after before. absurd (omega (arith, ints, after, first));
       }
-  gives_value false false false one outside up_to =
+  gives_value scalar false false false one outside up_to =
       let away = not_from_Decides _ at_one one in
       let inside = not_from_Decides _ off outside in
       let no_less = not_from_Decides _ (less coordinate peak) up_to in
@@ -136,19 +137,20 @@ module _ (start peak end coordinate : ℤ) where
         at_peak = λ e. absurd (away (inr e));
         outside = λ kept other off. absurd (inside off);
         rising = λ kept after before. absurd (no_less before);
-        falling = λ kept after before. quotient_gives (end -ℤ coordinate) (end -ℤ peak)
+        falling = λ kept after before. share_gives scalar (end -ℤ coordinate) (end -ℤ peak)
             (omega (arith, ints, after, before));
       }
 
-axis_is : (start peak end coordinate raw : ℤ) → IsAxisScalar start peak end coordinate raw
-    → raw ≡ axis_scalar start peak end coordinate
-unfolding axis_scalar
-axis_is start peak end coordinate raw given = is_value start peak end coordinate raw given _ _ _ refl refl refl
+scalar_after_is : (start peak end coordinate before raw : ℤ) → IsScalarAfter start peak end coordinate before raw
+    → raw ≡ scalar_after start peak end coordinate before
+unfolding scalar_after
+scalar_after_is start peak end coordinate before raw given =
+    is_value start peak end coordinate before raw given _ _ _ refl refl refl
 
-axis_gives : (start peak end coordinate : ℤ)
-    → IsAxisScalar start peak end coordinate (axis_scalar start peak end coordinate)
-unfolding axis_scalar
-axis_gives start peak end coordinate = gives_value start peak end coordinate _ _ _ refl refl refl
+scalar_after_gives : (start peak end coordinate before : ℤ)
+    → IsScalarAfter start peak end coordinate before (scalar_after start peak end coordinate before)
+unfolding scalar_after
+scalar_after_gives start peak end coordinate before = gives_value start peak end coordinate before _ _ _ refl refl refl
 
 -- ---- all axes
 
@@ -156,21 +158,15 @@ pub scalar_is : (region : List ℕ) (coordinates : List F2Dot14) (n : ℕ) (scal
     → IsScalarOf region coordinates n scalar → scalar ≡ scalar_of region coordinates n
 unfolding IsScalarOf scalar_of
 scalar_is region coordinates zero scalar is = is
-scalar_is region coordinates (suc n) scalar (before, along, so_far, next, product) =
-    rw (scalar_is region coordinates n before so_far, axis_is _ _ _ _ along next) at product.is
+scalar_is region coordinates (suc n) scalar (before, so_far, next) =
+    rw (← scalar_is region coordinates n before so_far) (scalar_after_is _ _ _ _ before scalar next)
 
 scalar_gives : (region : List ℕ) (coordinates : List F2Dot14) (n : ℕ)
     → IsScalarOf region coordinates n (scalar_of region coordinates n)
 unfolding IsScalarOf scalar_of
 scalar_gives region coordinates zero = refl
-scalar_gives region coordinates (suc n) = (
-  scalar_of region coordinates n,
-  axis_scalar (stored_bits region (6 * n)) (stored_bits region (6 * n + 2)) (stored_bits region (6 * n + 4))
-      (coordinate_bits coordinates n),
-  scalar_gives region coordinates n,
-  axis_gives _ _ _ _,
-  record { rounded = near _ 65536; nearest = near_is _ 65536 (lit< tt); wrapped = refl; is = refl },
-)
+scalar_gives region coordinates (suc n) =
+    (scalar_of region coordinates n, scalar_gives region coordinates n, scalar_after_gives _ _ _ _ _)
 
 pub scalar_at : (regions : List ℕ) (coordinates : List F2Dot14) (scalars : List Fixed) (region : ℕ) (d : Fixed)
     → AreScalars regions coordinates scalars → region < length scalars

@@ -1,54 +1,41 @@
 -- Products along axes and sums of columns: none, and one more; and how far they are off the exact ones.
-use Rattle.std.proofs.Common.{◌≡◌, refl, lit<, ℕ, zero, suc, ◌+◌, ◌-◌, ◌*◌, ℤ, pos, add-one, List, ◌+ℤ◌, ◌*ℤ◌}
+use Rattle.std.proofs.Common.{◌≡◌, refl, lit<, ℕ, zero, suc, ◌+◌, ◌*◌, ℤ, pos, add-one, List, ◌+ℤ◌, ◌*ℤ◌}
 use Rattle.std.proofs.Common.{unsigned_abs, arith, ◌≤◌, ◌<◌, ◌^◌, ◌≤ℤ◌, length, take, get_or}
 use Rattle.std.proofs.Math.Nat.{mul-add, zero-add}
 use Rattle.std.proofs.{lemmas.Int.ints, lemmas.Grind.common_steps, lemmas.List.get_or-take}
-use Rattle.font_types.specs.{Operations.IsProduct, F2Dot14.F2Dot14, Fixed.fixed_bits, Fixed.Fixed, Wrap.FitsBits}
-use Rattle.variations.specs.Variations.{IsScalarOf, IsScalarAlong, IsNearScalar, exact_scalar, IsOffBy, times, whole}
-use Rattle.variations.specs.Variations.{IsSumThrough, IsTerm, IsTermProduct, IsSetSum, IsNearSetSum, IsNearAdvance}
+use Rattle.font_types.specs.{F2Dot14.F2Dot14, Fixed.fixed_bits, Fixed.Fixed, Wrap.FitsBits}
+use Rattle.variations.specs.Variations.{IsScalarOf, IsScalarAfterAxis, IsNearScalar, exact_scalar, IsOffBy, times}
+use Rattle.variations.specs.Variations.{whole, IsSumThrough, IsTerm, IsTermProduct, IsSetSum, IsNearSetSum}
 use Rattle.variations.specs.Variations.{exact_delta, sum_halves, sum_of_magnitudes, region_bytes, region_index}
 use Rattle.variations.specs.Variations.{region_index_count, axis_count, delta_of, moved, exact_region_scalar, HasRegion}
 use Rattle.variations.specs.Variations.{region_offset, delta_place, column_place, AreScalars, IsRegionScalar, HasRow}
-use Rattle.variations.specs.Variations.{HasDelta, word_delta_count}
+use Rattle.variations.specs.Variations.{HasDelta, word_delta_count, IsNearAdvance}
 use Rattle.variations.proofs.Scalars.{scalar_is, scalar_at}
-use Rattle.variations.proofs.Fractions.{IsPartOff, off_by, axis_off, next_axis_off, first_axis_off, plus_off}
+use Rattle.variations.proofs.Fractions.{IsPartOff, off_by, one_off, next_axis_off, plus_off}
 use Rattle.variations.proofs.Fractions.{scaled_off, whole_off, rounded_off}
 
 pub no_axis : (region : List ℕ) (coordinates : List F2Dot14) → IsScalarOf region coordinates 0 (pos 65536)
 unfolding IsScalarOf
 no_axis region coordinates = refl
 
-pub one_more_axis : (region : List ℕ) (coordinates : List F2Dot14) (n : ℕ) (before along scalar : ℤ)
-    → IsScalarOf region coordinates n before → IsScalarAlong region coordinates n along
-    → IsProduct 32 16 before along scalar → IsScalarOf region coordinates (n + 1) scalar
+pub one_more_axis : (region : List ℕ) (coordinates : List F2Dot14) (n : ℕ) (before scalar : ℤ)
+    → IsScalarOf region coordinates n before → IsScalarAfterAxis region coordinates n before scalar
+    → IsScalarOf region coordinates (n + 1) scalar
 unfolding IsScalarOf
-one_more_axis region coordinates n before along scalar so_far next product =
-    rw (add-one n) (before, along, so_far, next, product)
+one_more_axis region coordinates n before scalar so_far next = rw (add-one n) (before, so_far, next)
 
--- ---- how far a scalar of one or more axes is off the exact one, and that of none
+-- ---- how far a scalar is off the exact one
 
 scalar_off : (region : List ℕ) (coordinates : List F2Dot14) (n : ℕ) (scalar : ℤ)
-    → IsScalarOf region coordinates (suc n) scalar
-    → IsPartOff (2 * n + 1) scalar (exact_scalar region coordinates (suc n))
+    → IsScalarOf region coordinates n scalar → IsPartOff n scalar (exact_scalar region coordinates n)
 unfolding IsScalarOf exact_scalar
-scalar_off region coordinates zero scalar (before, along, so_far, next, product) =
-    first_axis_off along _ (axis_off _ _ _ _ along next) scalar (rw so_far at product)
-scalar_off region coordinates (suc n) scalar (before, along, so_far, next, product) =
-    let count : 2 * suc n + 1 ≡ 2 * n + 1 + 2 = omega arith in
-    rw count (next_axis_off (2 * n + 1) before along _ _ (scalar_off region coordinates n before so_far)
-    (axis_off _ _ _ _ along next) scalar product)
-
-no_axis_near : (region : List ℕ) (coordinates : List F2Dot14) (scalar : ℤ) → IsScalarOf region coordinates 0 scalar
-    → IsNearScalar region coordinates 0 scalar
-unfolding IsScalarOf exact_scalar
-no_axis_near region coordinates scalar is = rw is (record { some = lit< tt; close = omega (arith, ints) })
+scalar_off region coordinates zero scalar is = rw is one_off
+scalar_off region coordinates (suc n) scalar (before, so_far, next) =
+    rw (← add-one n) (next_axis_off n before _ (scalar_off region coordinates n before so_far) _ _ _ _ scalar next)
 
 pub scalar_is_near : (region : List ℕ) (coordinates : List F2Dot14) (n : ℕ) (scalar : ℤ)
     → IsScalarOf region coordinates n scalar → IsNearScalar region coordinates n scalar
-scalar_is_near region coordinates zero scalar is = no_axis_near region coordinates scalar is
-scalar_is_near region coordinates (suc n) scalar is =
-    let count : 2 * suc n - 1 ≡ 2 * n + 1 = omega arith in
-    rw count (off_by _ _ _ (scalar_off region coordinates n scalar is))
+scalar_is_near region coordinates n scalar is = off_by _ _ _ (scalar_off region coordinates n scalar is)
 
 pub ruleset scalar_rules = (no_axis, one_more_axis, scalar_is_near)
 
@@ -83,30 +70,13 @@ one_more_term regions subtable coordinates set n before scalar delta so_far term
 
 -- ---- how far a sum of a set is off the exact one, and an advance that it moves
 
--- the product of a delta and the scalar of no axis is exact
-no_axis_term : (region : List ℕ) (coordinates : List F2Dot14) (scalar delta : ℤ)
-    → IsScalarOf region coordinates 0 scalar
-    → IsOffBy ((2 * 0 - 1) * unsigned_abs delta) (scalar *ℤ delta)
-    (times (exact_scalar region coordinates 0) (whole delta))
-unfolding IsScalarOf exact_scalar
-no_axis_term region coordinates scalar delta is = rw is (record { some = lit< tt; close = omega (arith, ints) })
-
-term_off : (region : List ℕ) (coordinates : List F2Dot14) (n : ℕ) (scalar delta : ℤ)
-    → IsScalarOf region coordinates n scalar
-    → IsOffBy ((2 * n - 1) * unsigned_abs delta) (scalar *ℤ delta)
-    (times (exact_scalar region coordinates n) (whole delta))
-term_off region coordinates zero scalar delta is = no_axis_term region coordinates scalar delta is
-term_off region coordinates (suc n) scalar delta is =
-    let count : 2 * suc n - 1 ≡ 2 * n + 1 = omega arith in
-    rw count (scaled_off (2 * n + 1) scalar delta _ (scalar_off region coordinates n scalar is))
-
 product_off : (regions subtable : List ℕ) (coordinates : List F2Dot14) (set n : ℕ) (product : ℤ)
     → IsTermProduct regions subtable coordinates set n product
-    → IsOffBy ((2 * axis_count regions - 1) * unsigned_abs (delta_of subtable set n)) product
+    → IsOffBy (axis_count regions * unsigned_abs (delta_of subtable set n)) product
     (times (exact_region_scalar regions (region_index subtable n) coordinates) (whole (delta_of subtable set n)))
 product_off regions subtable coordinates set n product is =
-    rw (is.value, is.is_term.delta) (term_off (region_bytes regions (region_index subtable n)) coordinates
-    (axis_count regions) (fixed_bits is.term.0) (delta_of subtable set n) is.is_term.scalar)
+    rw (is.value, is.is_term.delta) (scaled_off (axis_count regions) (fixed_bits is.term.0) (delta_of subtable set n) _
+    (scalar_off (region_bytes regions (region_index subtable n)) coordinates (axis_count regions) _ is.is_term.scalar))
 
 sum_off : (regions subtable : List ℕ) (coordinates : List F2Dot14) (set n : ℕ) (sum : ℤ)
     → IsSumThrough regions subtable coordinates set n sum
@@ -114,7 +84,7 @@ sum_off : (regions subtable : List ℕ) (coordinates : List F2Dot14) (set n : �
 unfolding IsSumThrough exact_delta sum_of_magnitudes
 sum_off regions subtable coordinates set zero sum is = rw is (record { some = lit< tt; close = omega (arith, ints) })
 sum_off regions subtable coordinates set (suc n) sum (before, product, so_far, next, is_sum) =
-    let parts = mul-add (2 * axis_count regions - 1) (sum_of_magnitudes subtable set n)
+    let parts = mul-add (axis_count regions) (sum_of_magnitudes subtable set n)
     (unsigned_abs (delta_of subtable set n)) in
     rw (is_sum, parts) (plus_off _ _ before product _ _
     (sum_off regions subtable coordinates set n before so_far)

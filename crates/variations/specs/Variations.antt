@@ -4,8 +4,8 @@ use Rattle.std.specs.Prelude.{◌-ℤ◌, ◌+ℤ◌, ◌*ℤ◌, unsigned_abs, 
 use Rattle.std.specs.Prelude.{nat_eq, if◌then◌else◌, Bool, ◌&&◌, ◌||◌, int_lt, int_le}
 use Rattle.std.specs.Ordering.{int_eq}
 use Rattle.font_types.specs.F2Dot14.{f2dot14_bits, f2dot14_of, F2Dot14}
-use Rattle.font_types.specs.{Bytes.numeral, Bytes.signed_numeral, Operations.IsProduct, Operations.IsQuotient}
-use Rattle.font_types.specs.{Fixed.fixed_bits, Fixed.Fixed, FWord.nearest_unit, Wrap.wrap, Near.near}
+use Rattle.font_types.specs.{Bytes.numeral, Bytes.signed_numeral, Operations.IsMulDiv, Operations.rounded_mul_div}
+use Rattle.font_types.specs.{Fixed.fixed_bits, Fixed.Fixed, FWord.nearest_unit, Wrap.wrap}
 
 -- ---- the scalar of an axis ("Algorithm for interpolation of instance values"): coordinates are raw values of 2.14,
 -- and the scalar is one of 16.16
@@ -18,16 +18,21 @@ IsIgnored start peak end = (peak <ℤ start) ⊎ ((end <ℤ peak) ⊎ (((start <
 abbrev pub IsOffRegion : ℤ → ℤ → ℤ → Type 0
 IsOffRegion start end coordinate = (coordinate ≤ℤ start) ⊎ (end ≤ℤ coordinate)
 
--- 1 if the axis is ignored, and at the peak; else 0 if the coordinate is out of range; else the part of the way from
--- the start up to the peak, or from the end down to it, rounded to 16.16 (OpenType sets no precision)
-pub record IsAxisScalar (start peak end coordinate scalar : ℤ) : Type 0 where
-  pub ignored : IsIgnored start peak end → scalar ≡ pos 65536
-  pub at_peak : coordinate ≡ peak → scalar ≡ pos 65536
+-- the scalar after an axis: the one before if the axis is ignored, and at the peak; else 0 if the coordinate is out of
+-- range; else the one before times the part of the way from the start up to the peak, or from the end down to it,
+-- rounded once to 16.16 (OpenType sets no precision)
+pub record IsScalarAfter (start peak end coordinate before scalar : ℤ) : Type 0 where
+  pub ignored : IsIgnored start peak end → scalar ≡ before
+  pub at_peak : coordinate ≡ peak → scalar ≡ before
   pub outside : ¬ IsIgnored start peak end → coordinate ≢ peak → IsOffRegion start end coordinate → scalar ≡ pos 0
   pub rising : ¬ IsIgnored start peak end → start <ℤ coordinate → coordinate <ℤ peak
-      → IsQuotient 32 16 (coordinate -ℤ start) (peak -ℤ start) scalar
+      → IsMulDiv 32 before (coordinate -ℤ start) (peak -ℤ start) scalar
   pub falling : ¬ IsIgnored start peak end → peak <ℤ coordinate → coordinate <ℤ end
-      → IsQuotient 32 16 (end -ℤ coordinate) (end -ℤ peak) scalar
+      → IsMulDiv 32 before (end -ℤ coordinate) (end -ℤ peak) scalar
+
+-- the scalar of an axis: that after it, with 1 before
+abbrev pub IsAxisScalar : ℤ → ℤ → ℤ → ℤ → ℤ → Type 0
+IsAxisScalar start peak end coordinate scalar = IsScalarAfter start peak end coordinate (pos 65536) scalar
 
 -- ---- the scalar of a region ("Variation Regions": axisCount, regionCount, and for each region and axis startCoord,
 -- peakCoord and endCoord, two bytes each)
@@ -62,16 +67,17 @@ stored_bits bytes offset = signed_numeral 2 (take 2 (drop offset bytes))
 abbrev pub coordinate_bits : List F2Dot14 → ℕ → ℤ
 coordinate_bits coordinates axis = f2dot14_bits (slice_index_or coordinates axis (f2dot14_of (pos 0)))
 
--- the scalar of a region along an axis
-abbrev pub IsScalarAlong : List ℕ → List F2Dot14 → ℕ → ℤ → Type 0
-IsScalarAlong region coordinates axis scalar = IsAxisScalar (stored_bits region (6 * axis))
-    (stored_bits region (6 * axis + 2)) (stored_bits region (6 * axis + 4)) (coordinate_bits coordinates axis) scalar
+-- the scalar of a region after an axis
+abbrev pub IsScalarAfterAxis : List ℕ → List F2Dot14 → ℕ → ℤ → ℤ → Type 0
+IsScalarAfterAxis region coordinates axis before scalar = IsScalarAfter (stored_bits region (6 * axis))
+    (stored_bits region (6 * axis + 2)) (stored_bits region (6 * axis + 4)) (coordinate_bits coordinates axis)
+    before scalar
 
--- the product of the scalars along the first n axes, rounded after each
+-- the product of the scalars along the first n axes, rounded once for each axis, in their order
 unfoldable pub IsScalarOf : List ℕ → List F2Dot14 → ℕ → ℤ → Type 0
 IsScalarOf region coordinates zero scalar = scalar ≡ pos 65536
-IsScalarOf region coordinates (suc n) scalar = (before along : ℤ) × IsScalarOf region coordinates n before
-    × IsScalarAlong region coordinates n along × IsProduct 32 16 before along scalar
+IsScalarOf region coordinates (suc n) scalar = (before : ℤ) × IsScalarOf region coordinates n before
+    × IsScalarAfterAxis region coordinates n before scalar
 
 -- the product of the scalars along all axes
 abbrev pub IsRegionScalar : List ℕ → ℕ → List F2Dot14 → ℤ → Type 0
@@ -85,24 +91,23 @@ abbrev pub is_ignored_axis : ℤ → ℤ → ℤ → Bool
 is_ignored_axis start peak end =
     int_lt peak start || (int_lt end peak || ((int_lt start (pos 0) && int_lt (pos 0) end) || int_eq peak (pos 0)))
 
--- the quotient of the raw values x and y of 16.16, for 0 < y
-abbrev pub quotient : ℤ → ℤ → ℤ
-quotient x y = wrap 32 (near (x *ℤ pos 65536) (unsigned_abs y))
+-- a scalar times a part of a way, rounded
+abbrev pub share : ℤ → ℤ → ℤ → ℤ
+share scalar part way = wrap 32 (rounded_mul_div scalar part way)
 
--- the scalar of an axis
-unfoldable pub axis_scalar : ℤ → ℤ → ℤ → ℤ → ℤ
-axis_scalar start peak end coordinate =
-    if is_ignored_axis start peak end || int_eq coordinate peak then pos 65536
+-- the scalar after an axis
+unfoldable pub scalar_after : ℤ → ℤ → ℤ → ℤ → ℤ → ℤ
+scalar_after start peak end coordinate before =
+    if is_ignored_axis start peak end || int_eq coordinate peak then before
     else (if int_le coordinate start || int_le end coordinate then pos 0
-    else (if int_lt coordinate peak then quotient (coordinate -ℤ start) (peak -ℤ start)
-    else quotient (end -ℤ coordinate) (end -ℤ peak)))
+    else (if int_lt coordinate peak then share before (coordinate -ℤ start) (peak -ℤ start)
+    else share before (end -ℤ coordinate) (end -ℤ peak)))
 
--- the product of the scalars along the first n axes, rounded after each
+-- the product of the scalars along the first n axes, rounded once for each axis
 unfoldable pub scalar_of : List ℕ → List F2Dot14 → ℕ → ℤ
 scalar_of region coordinates zero = pos 65536
-scalar_of region coordinates (suc n) = wrap 32 (near (scalar_of region coordinates n *ℤ
-    axis_scalar (stored_bits region (6 * n)) (stored_bits region (6 * n + 2)) (stored_bits region (6 * n + 4))
-    (coordinate_bits coordinates n)) 65536)
+scalar_of region coordinates (suc n) = scalar_after (stored_bits region (6 * n)) (stored_bits region (6 * n + 2))
+    (stored_bits region (6 * n + 4)) (coordinate_bits coordinates n) (scalar_of region coordinates n)
 
 -- the scalar of a region of a list
 abbrev pub region_scalar : List ℕ → ℕ → List F2Dot14 → ℤ
@@ -164,9 +169,9 @@ exact_scalar region coordinates (suc n) = times (exact_scalar region coordinates
     (exact_axis_scalar (stored_bits region (6 * n)) (stored_bits region (6 * n + 2)) (stored_bits region (6 * n + 4))
     (coordinate_bits coordinates n))
 
--- a scalar of n axes differs from their exact product by at most half a unit for the first axis and one for each other
+-- a scalar of n axes differs from their exact product by at most half a unit for each axis
 abbrev pub IsNearScalar : List ℕ → List F2Dot14 → ℕ → ℤ → Type 0
-IsNearScalar region coordinates n scalar = IsOffBy (2 * n - 1) scalar (exact_scalar region coordinates n)
+IsNearScalar region coordinates n scalar = IsOffBy n scalar (exact_scalar region coordinates n)
 
 -- the scalar of a region of a list
 abbrev pub exact_region_scalar : List ℕ → ℕ → List F2Dot14 → Fraction
@@ -287,7 +292,7 @@ sum_of_magnitudes subtable set (suc n) = sum_of_magnitudes subtable set n + unsi
 
 -- the bound of a set's sum, in halves of a unit: that of a scalar times the magnitude of each delta
 abbrev pub sum_halves : List ℕ → List ℕ → ℕ → ℕ → ℕ
-sum_halves regions subtable set n = (2 * axis_count regions - 1) * sum_of_magnitudes subtable set n
+sum_halves regions subtable set n = axis_count regions * sum_of_magnitudes subtable set n
 
 abbrev pub IsNearSetSum : List ℕ → List ℕ → List F2Dot14 → ℕ → ℤ → Type 0
 IsNearSetSum regions subtable coordinates set sum =
@@ -300,7 +305,7 @@ exact_advance regions subtable coordinates set advance =
     plus (whole (pos advance)) (exact_delta regions subtable coordinates set (region_index_count subtable))
 
 -- a varied advance differs from the exact one by at most half a font unit and the bound of the set's sum:
--- |varied - exact| <= 1/2 + (axes - 1/2) * (sum of |delta|) / 65536, or 1/2 if there are no axes
+-- |varied - exact| <= 1/2 + axes/2 * (sum of |delta|) / 65536
 abbrev pub IsNearAdvance : List ℕ → List ℕ → List F2Dot14 → ℕ → ℕ → ℤ → Type 0
 IsNearAdvance regions subtable coordinates set advance varied =
     IsOffBy (65536 + sum_halves regions subtable set (region_index_count subtable)) (varied *ℤ pos 65536)

@@ -121,7 +121,7 @@ fn clamp(value: Fixed, min: Fixed, max: Fixed) -> Fixed
 }
 
 // Divides a part by its whole, as a quotient from 0 to 1.
-pub(crate) fn ratio(part: Fixed, whole: Fixed) -> Fixed
+fn ratio(part: Fixed, whole: Fixed) -> Fixed
     requires part { (pos 0 ≤ℤ fixed_bits part) × (fixed_bits part ≤ℤ fixed_bits whole) }
     requires whole { whole ≢ Fixed.ZERO }
     ensures value { IsQuotient 32 16 (fixed_bits part) (fixed_bits whole) (fixed_bits result) }

@@ -2,16 +2,16 @@
 
 ghost use Rattle.std.specs.Prelude.{◌≡◌, ◌≢◌, ◌↔◌, ◌≤◌, ◌+◌, ◌*◌, pos, ◌≤ℤ◌, ◌<ℤ◌, ◌-ℤ◌, ◌*ℤ◌};
 ghost use Rattle.std.specs.Prelude.{IsTrue, IsSome, IfSome, length, IfNone, take};
-ghost use Rattle.font_types.specs.Operations.{IsProduct, IsQuotient};
+ghost use Rattle.font_types.specs.Operations.{IsMulDiv};
 ghost use Rattle.font_types.specs.Fixed;
 ghost use Rattle.font_types.specs.{Fixed.fixed_bits, F2Dot14.f2dot14_bits};
-ghost use Rattle.variations.specs.Variations.{IsIgnored, IsOffRegion, IsAxisScalar, HasRegion};
+ghost use Rattle.variations.specs.Variations.{IsIgnored, IsOffRegion, IsScalarAfter};
+ghost use Rattle.variations.specs.Variations.{IsAxisScalar, HasRegion};
 ghost use Rattle.variations.specs.Variations.{axis_count, region_bytes, stored_bits};
-ghost use Rattle.variations.specs.Variations.{coordinate_bits, IsScalarAlong, IsScalarOf};
+ghost use Rattle.variations.specs.Variations.{coordinate_bits, IsScalarAfterAxis, IsScalarOf};
 ghost use Rattle.variations.specs.Variations.{IsNearScalar, IsRegionScalar, IsNearRegionScalar};
 ghost use Rattle.variations.specs.Variations.{AreScalars};
 
-use crate::evaluator::ratio;
 use font_types::{F2Dot14, Fixed, Scalar};
 
 /// The extent of a region along one axis.
@@ -47,15 +47,29 @@ pub fn axis_scalar(axis: RegionAxisCoordinates, coordinate: F2Dot14) -> Fixed
     ensures low { pos 0 ≤ℤ fixed_bits result }
     ensures high { fixed_bits result ≤ℤ fixed_bits Fixed.ONE }
 {
+    scaled(Fixed::ONE, axis, coordinate)
+}
+
+// Multiplies a scalar by that of a region along one axis, and rounds once.
+fn scaled(scalar: Fixed, axis: RegionAxisCoordinates, coordinate: F2Dot14) -> Fixed
+    requires { (pos 0 ≤ℤ fixed_bits scalar) × (fixed_bits scalar ≤ℤ fixed_bits Fixed.ONE) }
+    ensures value { IsScalarAfter (f2dot14_bits axis.start_coord) (f2dot14_bits axis.peak_coord)
+        (f2dot14_bits axis.end_coord) (f2dot14_bits coordinate) (fixed_bits scalar)
+        (fixed_bits result) }
+    ensures low { pos 0 ≤ℤ fixed_bits result }
+    ensures high { fixed_bits result ≤ℤ fixed_bits Fixed.ONE }
+{
     if is_ignored(axis) || coordinate == axis.peak_coord {
-        Fixed::ONE
+        scalar
     } else {
-        scalar_off_peak(axis, coordinate)
+        scaled_off_peak(scalar, axis, coordinate)
     }
 }
 
-// Returns `axis_scalar` of an axis that is not ignored, at another coordinate than the peak.
-fn scalar_off_peak(axis: RegionAxisCoordinates, coordinate: F2Dot14) -> Fixed
+// Returns `scaled` of an axis that is not ignored, at another coordinate than the peak.
+fn scaled_off_peak(scalar: Fixed, axis: RegionAxisCoordinates, coordinate: F2Dot14) -> Fixed
+    requires scalar { (pos 0 ≤ℤ fixed_bits scalar)
+        × (fixed_bits scalar ≤ℤ fixed_bits Fixed.ONE) }
     requires order { (f2dot14_bits axis.start_coord ≤ℤ f2dot14_bits axis.peak_coord)
         × (f2dot14_bits axis.peak_coord ≤ℤ f2dot14_bits axis.end_coord) }
     requires away { f2dot14_bits coordinate ≢ f2dot14_bits axis.peak_coord }
@@ -63,11 +77,13 @@ fn scalar_off_peak(axis: RegionAxisCoordinates, coordinate: F2Dot14) -> Fixed
         (f2dot14_bits axis.end_coord) (f2dot14_bits coordinate) → fixed_bits result ≡ pos 0 }
     ensures rising { f2dot14_bits axis.start_coord <ℤ f2dot14_bits coordinate
         → f2dot14_bits coordinate <ℤ f2dot14_bits axis.peak_coord
-        → IsQuotient 32 16 (f2dot14_bits coordinate -ℤ f2dot14_bits axis.start_coord)
+        → IsMulDiv 32 (fixed_bits scalar)
+        (f2dot14_bits coordinate -ℤ f2dot14_bits axis.start_coord)
         (f2dot14_bits axis.peak_coord -ℤ f2dot14_bits axis.start_coord) (fixed_bits result) }
     ensures falling { f2dot14_bits axis.peak_coord <ℤ f2dot14_bits coordinate
         → f2dot14_bits coordinate <ℤ f2dot14_bits axis.end_coord
-        → IsQuotient 32 16 (f2dot14_bits axis.end_coord -ℤ f2dot14_bits coordinate)
+        → IsMulDiv 32 (fixed_bits scalar)
+        (f2dot14_bits axis.end_coord -ℤ f2dot14_bits coordinate)
         (f2dot14_bits axis.end_coord -ℤ f2dot14_bits axis.peak_coord) (fixed_bits result) }
     ensures low { pos 0 ≤ℤ fixed_bits result }
     ensures high { fixed_bits result ≤ℤ fixed_bits Fixed.ONE }
@@ -76,29 +92,31 @@ fn scalar_off_peak(axis: RegionAxisCoordinates, coordinate: F2Dot14) -> Fixed
     if coordinate <= start || end <= coordinate {
         Fixed::ZERO
     } else if coordinate < peak {
-        ratio(widened(start, coordinate), widened(start, peak))
+        share(scalar, distance(start, coordinate), distance(start, peak))
     } else {
-        ratio(widened(coordinate, end), widened(peak, end))
+        share(scalar, distance(coordinate, end), distance(peak, end))
     }
 }
 
-// Returns the exact difference `to - from`.
-fn widened(from: F2Dot14, to: F2Dot14) -> Fixed
-    ensures { fixed_bits result ≡ ((f2dot14_bits to -ℤ f2dot14_bits from) *ℤ pos 4) }
+// Returns the exact difference `to - from` of raw values of 2.14, for a ratio of two.
+fn distance(from: F2Dot14, to: F2Dot14) -> Fixed
+    ensures { fixed_bits result ≡ (f2dot14_bits to -ℤ f2dot14_bits from) }
 {
-    to.to_fixed() - from.to_fixed()
+    Fixed::from_bits(i32::from(to.to_bits()) - i32::from(from.to_bits()))
 }
 
-// Returns a product of numbers from 0 to 1.
-fn scaled(scalar: Fixed, along: Fixed) -> Fixed
+// Returns a scalar times a part of its whole, rounded once.
+fn share(scalar: Fixed, part: Fixed, whole: Fixed) -> Fixed
     requires scalar { (pos 0 ≤ℤ fixed_bits scalar)
         × (fixed_bits scalar ≤ℤ fixed_bits Fixed.ONE) }
-    requires along { (pos 0 ≤ℤ fixed_bits along) × (fixed_bits along ≤ℤ fixed_bits Fixed.ONE) }
-    ensures value { IsProduct 32 16 (fixed_bits scalar) (fixed_bits along) (fixed_bits result) }
+    requires part { (pos 0 ≤ℤ fixed_bits part) × (fixed_bits part ≤ℤ fixed_bits whole) }
+    requires whole { whole ≢ Fixed.ZERO }
+    ensures value { IsMulDiv 32 (fixed_bits scalar) (fixed_bits part) (fixed_bits whole)
+        (fixed_bits result) }
     ensures low { pos 0 ≤ℤ fixed_bits result }
     ensures high { fixed_bits result ≤ℤ fixed_bits Fixed.ONE }
 {
-    scalar * along
+    scalar.mul_div(part, whole)
 }
 
 // Returns the coordinate along an axis, by default 0.
@@ -126,17 +144,24 @@ fn axis_of(region: &[u8], axis: u16) -> RegionAxisCoordinates
     }
 }
 
-// Returns the scalar of a region along an axis.
-fn scalar_along(region: &[u8], coordinates: &[F2Dot14], axis: u16) -> Fixed
-    requires { 6 * axis + 6 ≤ length region.now }
-    ensures value { IsScalarAlong region.now coordinates.now axis (fixed_bits result) }
+// Returns `scaled` of a region's axis at the coordinate along it.
+fn scaled_along(scalar: Fixed, region: &[u8], coordinates: &[F2Dot14], axis: u16) -> Fixed
+    requires scalar { (pos 0 ≤ℤ fixed_bits scalar)
+        × (fixed_bits scalar ≤ℤ fixed_bits Fixed.ONE) }
+    requires axis { 6 * axis + 6 ≤ length region.now }
+    ensures value { IsScalarAfterAxis region.now coordinates.now axis (fixed_bits scalar)
+        (fixed_bits result) }
     ensures low { pos 0 ≤ℤ fixed_bits result }
     ensures high { fixed_bits result ≤ℤ fixed_bits Fixed.ONE }
 {
-    axis_scalar(axis_of(region, axis), coordinate_along(coordinates, axis))
+    scaled(
+        scalar,
+        axis_of(region, axis),
+        coordinate_along(coordinates, axis),
+    )
 }
 
-// Returns the product of the scalars along all axes.
+// Returns the product of the scalars along all axes, rounded after each.
 #[tactic(auto, using(font_types::proofs::Callers::calls, crate::proofs::Stores::scalar_rules))]
 fn product_of_scalars(region: &[u8], axes: u16, coordinates: &[F2Dot14]) -> Fixed
     requires { 6 * axes ≤ length region.now }
@@ -147,7 +172,7 @@ fn product_of_scalars(region: &[u8], axes: u16, coordinates: &[F2Dot14]) -> Fixe
 {
     let mut scalar = Fixed::ONE;
     for axis in 0..axes {
-        scalar = scaled(scalar, scalar_along(region, coordinates, axis));
+        scalar = scaled_along(scalar, region, coordinates, axis);
     }
     scalar
 }
@@ -170,6 +195,8 @@ fn find_region(regions: &[u8], region: u16) -> Option<&[u8]>
 
 /// Returns the scalar of a region, the product of those of its axes, from 0 to 1, or `None` if the
 /// list does not have the region. Axes beyond the coordinates are at their default.
+///
+/// The product is rounded once for each axis, in the order of the axes, half up.
 #[must_use]
 pub fn region_scalar(regions: &[u8], region: u16, coordinates: &[F2Dot14]) -> Option<Fixed>
     ensures variant { IsSome result ↔ HasRegion regions.now region }

@@ -45,17 +45,17 @@ fn scalars_of_axes() {
     }
 }
 
-// One region of two axes, each from 0 to a peak that is the end, at 12854 and at 9584 of 2.14.
+// One region of two axes, each from 0 to a peak that is the end, at 15489 and at 14464 of 2.14.
 const NEAR_THE_PEAKS: [u8; 16] =
-    [0, 2, 0, 1, 0, 0, 0x32, 0x36, 0x32, 0x36, 0, 0, 0x25, 0x70, 0x25, 0x70];
+    [0, 2, 0, 1, 0, 0, 0x3C, 0x81, 0x3C, 0x81, 0, 0, 0x38, 0x80, 0x38, 0x80];
 
-// 65536 * 12788/12854 * 9513/9584 is 64716.49: the scalar is off by 1.49, of at most 1.5.
+// 65536 * 15383/15489 * 14463/14464 is 65083.00007: the scalar is off by 0.99993, of at most 1.
 #[test]
 fn scalar_of_two_axes_near_its_bound() {
     let rt = crate::std_for_tests::Host;
-    let coordinates = [12788, 9513].map(F2Dot14::from_bits);
+    let coordinates = [15383, 14463].map(F2Dot14::from_bits);
     let scalar = region_scalar(&NEAR_THE_PEAKS, 0, &coordinates);
-    assert!(rt; scalar == Some(Fixed::from_bits(64715)));
+    assert!(rt; scalar == Some(Fixed::from_bits(65084)));
 }
 
 // Two axes and two regions: both axes from 0 to a peak at 3 of 2.14; the second alone.
@@ -67,9 +67,9 @@ fn scalars_of_regions() {
     let rt = crate::std_for_tests::Host;
     let [one, two] = [1, 2].map(F2Dot14::from_bits);
     for &(region, coordinates, bits) in &[
-        (0, &[two, two][..], Some(29128)),
-        // The product of 2/3 as rounded, and of 1/3: 14563.4.
-        (0, &[two, one], Some(14563)),
+        // The products of 2/3 as rounded, and of 2/3 and 1/3: 29127.3 and 14563.7.
+        (0, &[two, two][..], Some(29127)),
+        (0, &[two, one], Some(14564)),
         (1, &[two, two], Some(43691)),
         (1, &[one, two, two], Some(43691)),
         (0, &[two], Some(0)),

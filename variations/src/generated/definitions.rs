@@ -411,7 +411,7 @@ pub mod font_fixed {
     /// The operations of fixed-point numbers, over their raw values. A w-bit number with f fraction bits is its raw value
     /// over 2^f (OpenType, data types: Fixed is 16.16, F2DOT14 is 2.14).
     ///
-    /// In the order of `crates/font_fixed/specs/Operations.antt`: [`wrapped_near`](mod@Operations::wrapped_near), [`IsWrappedNear`](mod@Operations::IsWrappedNear), [`narrowed`](mod@Operations::narrowed), [`IsNarrowed`](mod@Operations::IsNarrowed), [`least`](mod@Operations::least), [`greatest`](mod@Operations::greatest), [`ReadsBits`](mod@Operations::ReadsBits), [`IsTooFar`](mod@Operations::IsTooFar), [`ParsesBits`](mod@Operations::ParsesBits), [`differ_in_sign`](mod@Operations::differ_in_sign), [`IsProduct`](mod@Operations::IsProduct), [`IsMulDiv`](mod@Operations::IsMulDiv), [`IsQuotient`](mod@Operations::IsQuotient), [`rounded_mul_div`](mod@Operations::rounded_mul_div).
+    /// In the order of `crates/font_fixed/specs/Operations.antt`: [`wrapped_near`](mod@Operations::wrapped_near), [`IsWrappedNear`](mod@Operations::IsWrappedNear), [`narrowed`](mod@Operations::narrowed), [`IsNarrowed`](mod@Operations::IsNarrowed), [`least`](mod@Operations::least), [`greatest`](mod@Operations::greatest), [`ReadsBits`](mod@Operations::ReadsBits), [`IsTooFar`](mod@Operations::IsTooFar), [`ParsesBits`](mod@Operations::ParsesBits), [`differ_in_sign`](mod@Operations::differ_in_sign), [`IsMulDiv`](mod@Operations::IsMulDiv), [`IsQuotient`](mod@Operations::IsQuotient), [`rounded_mul_div`](mod@Operations::rounded_mul_div).
     pub mod Operations {
         use crate::definitions::font_base::Wrap::half_range;
         use crate::definitions::font_base::Wrap::wrap;
@@ -517,15 +517,6 @@ pub mod font_fixed {
         /// differ_in_sign x y = if is_negative x then not (is_negative y) else is_negative y
         /// ```
         pub mod differ_in_sign {}
-
-        /// r is the product of the raw values x and y: the exact product, rounded and wrapped
-        ///
-        /// ```text
-        /// abbrev IsProduct : ℕ → ℕ → ℤ → ℤ → ℤ → Type 0
-        /// IsProduct w f x y r = IsWrappedNear w (x *ℤ y) (2 ^ f) r
-        /// ```
-        /// [`IsWrappedNear`]
-        pub mod IsProduct {}
 
         /// r is x * a / c, rounded and wrapped; if c is 0, the largest w-bit integer, negated if exactly one of x and a is
         /// negative
@@ -1147,19 +1138,18 @@ pub mod variations {
 
     /// Item variation stores (OpenType, font variations common table formats: "Item Variation Store").
     ///
-    /// In the order of `crates/variations/specs/Variations.antt`: [`IsIgnored`](mod@Variations::IsIgnored), [`IsOffRegion`](mod@Variations::IsOffRegion), [`IsAxisScalar`](mod@Variations::IsAxisScalar), [`axis_count`](mod@Variations::axis_count), [`region_count`](mod@Variations::region_count), [`region_offset`](mod@Variations::region_offset), [`HasRegion`](mod@Variations::HasRegion), [`region_bytes`](mod@Variations::region_bytes), [`stored_bits`](mod@Variations::stored_bits), [`coordinate_bits`](mod@Variations::coordinate_bits), [`IsScalarAlong`](mod@Variations::IsScalarAlong), [`IsScalarOf`](mod@Variations::IsScalarOf), [`IsRegionScalar`](mod@Variations::IsRegionScalar), [`is_ignored_axis`](mod@Variations::is_ignored_axis), [`quotient`](mod@Variations::quotient), [`axis_scalar`](mod@Variations::axis_scalar), [`scalar_of`](mod@Variations::scalar_of), [`region_scalar`](mod@Variations::region_scalar), [`AreScalars`](mod@Variations::AreScalars), [`Fraction`](mod@Variations::Fraction), [`whole`](mod@Variations::whole), [`part_of`](mod@Variations::part_of), [`times`](mod@Variations::times), [`plus`](mod@Variations::plus), [`IsOffBy`](mod@Variations::IsOffBy), [`exact_axis_scalar`](mod@Variations::exact_axis_scalar), [`exact_scalar`](mod@Variations::exact_scalar), [`IsNearScalar`](mod@Variations::IsNearScalar), [`exact_region_scalar`](mod@Variations::exact_region_scalar), [`IsNearRegionScalar`](mod@Variations::IsNearRegionScalar), [`item_count`](mod@Variations::item_count), [`word_delta_count`](mod@Variations::word_delta_count), [`region_index_count`](mod@Variations::region_index_count), [`region_index`](mod@Variations::region_index), [`narrow_width`](mod@Variations::narrow_width), [`delta_width`](mod@Variations::delta_width), [`delta_place`](mod@Variations::delta_place), [`column_width`](mod@Variations::column_width), [`delta_offset`](mod@Variations::delta_offset), [`HasDelta`](mod@Variations::HasDelta), [`delta_of`](mod@Variations::delta_of), [`HasTerm`](mod@Variations::HasTerm), [`IsTerm`](mod@Variations::IsTerm), [`IsTermProduct`](mod@Variations::IsTermProduct), [`IsSumThrough`](mod@Variations::IsSumThrough), [`IsSetSum`](mod@Variations::IsSetSum), [`exact_delta`](mod@Variations::exact_delta), [`sum_of_magnitudes`](mod@Variations::sum_of_magnitudes), [`sum_halves`](mod@Variations::sum_halves), [`IsNearSetSum`](mod@Variations::IsNearSetSum), [`exact_advance`](mod@Variations::exact_advance), [`IsNearAdvance`](mod@Variations::IsNearAdvance), [`HasSet`](mod@Variations::HasSet), [`moved`](mod@Variations::moved), [`IsAdvance`](mod@Variations::IsAdvance), [`IsVaried`](mod@Variations::IsVaried), [`HasNoVaried`](mod@Variations::HasNoVaried), [`map_format`](mod@Variations::map_format), [`entry_format`](mod@Variations::entry_format), [`map_count`](mod@Variations::map_count), [`map_start`](mod@Variations::map_start), [`entry_width`](mod@Variations::entry_width), [`inner_bits`](mod@Variations::inner_bits), [`entry_offset`](mod@Variations::entry_offset), [`HasEntry`](mod@Variations::HasEntry), [`entry_of`](mod@Variations::entry_of), [`IsNoVariation`](mod@Variations::IsNoVariation).
+    /// In the order of `crates/variations/specs/Variations.antt`: [`IsIgnored`](mod@Variations::IsIgnored), [`IsOffRegion`](mod@Variations::IsOffRegion), [`IsScalarAfter`](mod@Variations::IsScalarAfter), [`IsAxisScalar`](mod@Variations::IsAxisScalar), [`axis_count`](mod@Variations::axis_count), [`region_count`](mod@Variations::region_count), [`region_offset`](mod@Variations::region_offset), [`HasRegion`](mod@Variations::HasRegion), [`region_bytes`](mod@Variations::region_bytes), [`stored_bits`](mod@Variations::stored_bits), [`coordinate_bits`](mod@Variations::coordinate_bits), [`IsScalarAfterAxis`](mod@Variations::IsScalarAfterAxis), [`IsScalarOf`](mod@Variations::IsScalarOf), [`IsRegionScalar`](mod@Variations::IsRegionScalar), [`is_ignored_axis`](mod@Variations::is_ignored_axis), [`share`](mod@Variations::share), [`scalar_after`](mod@Variations::scalar_after), [`scalar_of`](mod@Variations::scalar_of), [`region_scalar`](mod@Variations::region_scalar), [`AreScalars`](mod@Variations::AreScalars), [`Fraction`](mod@Variations::Fraction), [`whole`](mod@Variations::whole), [`part_of`](mod@Variations::part_of), [`times`](mod@Variations::times), [`plus`](mod@Variations::plus), [`IsOffBy`](mod@Variations::IsOffBy), [`exact_axis_scalar`](mod@Variations::exact_axis_scalar), [`exact_scalar`](mod@Variations::exact_scalar), [`IsNearScalar`](mod@Variations::IsNearScalar), [`exact_region_scalar`](mod@Variations::exact_region_scalar), [`IsNearRegionScalar`](mod@Variations::IsNearRegionScalar), [`item_count`](mod@Variations::item_count), [`word_delta_count`](mod@Variations::word_delta_count), [`region_index_count`](mod@Variations::region_index_count), [`region_index`](mod@Variations::region_index), [`narrow_width`](mod@Variations::narrow_width), [`delta_width`](mod@Variations::delta_width), [`delta_place`](mod@Variations::delta_place), [`column_width`](mod@Variations::column_width), [`delta_offset`](mod@Variations::delta_offset), [`HasDelta`](mod@Variations::HasDelta), [`delta_of`](mod@Variations::delta_of), [`HasTerm`](mod@Variations::HasTerm), [`IsTerm`](mod@Variations::IsTerm), [`IsTermProduct`](mod@Variations::IsTermProduct), [`IsSumThrough`](mod@Variations::IsSumThrough), [`IsSetSum`](mod@Variations::IsSetSum), [`exact_delta`](mod@Variations::exact_delta), [`sum_of_magnitudes`](mod@Variations::sum_of_magnitudes), [`sum_halves`](mod@Variations::sum_halves), [`IsNearSetSum`](mod@Variations::IsNearSetSum), [`exact_advance`](mod@Variations::exact_advance), [`IsNearAdvance`](mod@Variations::IsNearAdvance), [`HasSet`](mod@Variations::HasSet), [`moved`](mod@Variations::moved), [`IsAdvance`](mod@Variations::IsAdvance), [`IsVaried`](mod@Variations::IsVaried), [`HasNoVaried`](mod@Variations::HasNoVaried), [`map_format`](mod@Variations::map_format), [`entry_format`](mod@Variations::entry_format), [`map_count`](mod@Variations::map_count), [`map_start`](mod@Variations::map_start), [`entry_width`](mod@Variations::entry_width), [`inner_bits`](mod@Variations::inner_bits), [`entry_offset`](mod@Variations::entry_offset), [`HasEntry`](mod@Variations::HasEntry), [`entry_of`](mod@Variations::entry_of), [`IsNoVariation`](mod@Variations::IsNoVariation).
     pub mod Variations {
         use crate::definitions::font_base::Bytes::numeral;
         use crate::definitions::font_base::Bytes::signed_numeral;
         use crate::definitions::font_base::Wrap::wrap;
-        use crate::definitions::font_decimal::Near::near;
         use crate::definitions::font_fixed::F2Dot14::F2Dot14;
         use crate::definitions::font_fixed::F2Dot14::f2dot14_bits;
         use crate::definitions::font_fixed::F2Dot14::f2dot14_of;
         use crate::definitions::font_fixed::Fixed::Fixed;
         use crate::definitions::font_fixed::Fixed::fixed_bits;
-        use crate::definitions::font_fixed::Operations::IsProduct;
-        use crate::definitions::font_fixed::Operations::IsQuotient;
+        use crate::definitions::font_fixed::Operations::IsMulDiv;
+        use crate::definitions::font_fixed::Operations::rounded_mul_div;
         use crate::definitions::font_ids::FWord::nearest_unit;
         /// the axis is ignored: start, peak and end are out of order, or on both sides of zero, or the peak is zero
         ///
@@ -1177,20 +1167,30 @@ pub mod variations {
         /// ```
         pub mod IsOffRegion {}
 
-        /// 1 if the axis is ignored, and at the peak; else 0 if the coordinate is out of range; else the part of the way from
-        /// the start up to the peak, or from the end down to it, rounded to 16.16 (OpenType sets no precision)
+        /// the scalar after an axis: the one before if the axis is ignored, and at the peak; else 0 if the coordinate is out of
+        /// range; else the one before times the part of the way from the start up to the peak, or from the end down to it,
+        /// rounded once to 16.16 (OpenType sets no precision)
         ///
         /// ```text
-        /// record IsAxisScalar (start peak end coordinate scalar : ℤ) : Type 0 where
-        ///   ignored : IsIgnored start peak end → scalar ≡ pos 65536
-        ///   at_peak : coordinate ≡ peak → scalar ≡ pos 65536
+        /// record IsScalarAfter (start peak end coordinate before scalar : ℤ) : Type 0 where
+        ///   ignored : IsIgnored start peak end → scalar ≡ before
+        ///   at_peak : coordinate ≡ peak → scalar ≡ before
         ///   outside : ¬ IsIgnored start peak end → coordinate ≢ peak → IsOffRegion start end coordinate → scalar ≡ pos 0
         ///   rising : ¬ IsIgnored start peak end → start <ℤ coordinate → coordinate <ℤ peak
-        ///       → IsQuotient 32 16 (coordinate -ℤ start) (peak -ℤ start) scalar
+        ///       → IsMulDiv 32 before (coordinate -ℤ start) (peak -ℤ start) scalar
         ///   falling : ¬ IsIgnored start peak end → peak <ℤ coordinate → coordinate <ℤ end
-        ///       → IsQuotient 32 16 (end -ℤ coordinate) (end -ℤ peak) scalar
+        ///       → IsMulDiv 32 before (end -ℤ coordinate) (end -ℤ peak) scalar
         /// ```
-        /// [`IsIgnored`], [`IsOffRegion`], [`IsQuotient`]
+        /// [`IsIgnored`], [`IsOffRegion`], [`IsMulDiv`]
+        pub mod IsScalarAfter {}
+
+        /// the scalar of an axis: that after it, with 1 before
+        ///
+        /// ```text
+        /// abbrev IsAxisScalar : ℤ → ℤ → ℤ → ℤ → ℤ → Type 0
+        /// IsAxisScalar start peak end coordinate scalar = IsScalarAfter start peak end coordinate (pos 65536) scalar
+        /// ```
+        /// [`IsScalarAfter`]
         pub mod IsAxisScalar {}
 
         /// the scalar of a region ("Variation Regions": axisCount, regionCount, and for each region and axis startCoord,
@@ -1261,25 +1261,26 @@ pub mod variations {
         /// [`F2Dot14`], [`f2dot14_bits`], [`f2dot14_of`]
         pub mod coordinate_bits {}
 
-        /// the scalar of a region along an axis
+        /// the scalar of a region after an axis
         ///
         /// ```text
-        /// abbrev IsScalarAlong : List ℕ → List F2Dot14 → ℕ → ℤ → Type 0
-        /// IsScalarAlong region coordinates axis scalar = IsAxisScalar (stored_bits region (6 * axis))
-        ///     (stored_bits region (6 * axis + 2)) (stored_bits region (6 * axis + 4)) (coordinate_bits coordinates axis) scalar
+        /// abbrev IsScalarAfterAxis : List ℕ → List F2Dot14 → ℕ → ℤ → ℤ → Type 0
+        /// IsScalarAfterAxis region coordinates axis before scalar = IsScalarAfter (stored_bits region (6 * axis))
+        ///     (stored_bits region (6 * axis + 2)) (stored_bits region (6 * axis + 4)) (coordinate_bits coordinates axis)
+        ///     before scalar
         /// ```
-        /// [`F2Dot14`], [`IsAxisScalar`], [`stored_bits`], [`coordinate_bits`]
-        pub mod IsScalarAlong {}
+        /// [`F2Dot14`], [`IsScalarAfter`], [`stored_bits`], [`coordinate_bits`]
+        pub mod IsScalarAfterAxis {}
 
-        /// the product of the scalars along the first n axes, rounded after each
+        /// the product of the scalars along the first n axes, rounded once for each axis, in their order
         ///
         /// ```text
         /// unfoldable IsScalarOf : List ℕ → List F2Dot14 → ℕ → ℤ → Type 0
         /// IsScalarOf region coordinates zero scalar = scalar ≡ pos 65536
-        /// IsScalarOf region coordinates (suc n) scalar = (before along : ℤ) × IsScalarOf region coordinates n before
-        ///     × IsScalarAlong region coordinates n along × IsProduct 32 16 before along scalar
+        /// IsScalarOf region coordinates (suc n) scalar = (before : ℤ) × IsScalarOf region coordinates n before
+        ///     × IsScalarAfterAxis region coordinates n before scalar
         /// ```
-        /// [`F2Dot14`], [`IsScalarAlong`], [`IsProduct`]
+        /// [`F2Dot14`], [`IsScalarAfterAxis`]
         pub mod IsScalarOf {}
 
         /// the product of the scalars along all axes
@@ -1301,38 +1302,37 @@ pub mod variations {
         /// ```
         pub mod is_ignored_axis {}
 
-        /// the quotient of the raw values x and y of 16.16, for 0 < y
+        /// a scalar times a part of a way, rounded
         ///
         /// ```text
-        /// abbrev quotient : ℤ → ℤ → ℤ
-        /// quotient x y = wrap 32 (near (x *ℤ pos 65536) (unsigned_abs y))
+        /// abbrev share : ℤ → ℤ → ℤ → ℤ
+        /// share scalar part way = wrap 32 (rounded_mul_div scalar part way)
         /// ```
-        /// [`wrap`], [`near`]
-        pub mod quotient {}
+        /// [`wrap`], [`rounded_mul_div`]
+        pub mod share {}
 
-        /// the scalar of an axis
+        /// the scalar after an axis
         ///
         /// ```text
-        /// unfoldable axis_scalar : ℤ → ℤ → ℤ → ℤ → ℤ
-        /// axis_scalar start peak end coordinate =
-        ///     if is_ignored_axis start peak end || int_eq coordinate peak then pos 65536
+        /// unfoldable scalar_after : ℤ → ℤ → ℤ → ℤ → ℤ → ℤ
+        /// scalar_after start peak end coordinate before =
+        ///     if is_ignored_axis start peak end || int_eq coordinate peak then before
         ///     else (if int_le coordinate start || int_le end coordinate then pos 0
-        ///     else (if int_lt coordinate peak then quotient (coordinate -ℤ start) (peak -ℤ start)
-        ///     else quotient (end -ℤ coordinate) (end -ℤ peak)))
+        ///     else (if int_lt coordinate peak then share before (coordinate -ℤ start) (peak -ℤ start)
+        ///     else share before (end -ℤ coordinate) (end -ℤ peak)))
         /// ```
-        /// [`is_ignored_axis`], [`quotient`]
-        pub mod axis_scalar {}
+        /// [`is_ignored_axis`], [`share`]
+        pub mod scalar_after {}
 
-        /// the product of the scalars along the first n axes, rounded after each
+        /// the product of the scalars along the first n axes, rounded once for each axis
         ///
         /// ```text
         /// unfoldable scalar_of : List ℕ → List F2Dot14 → ℕ → ℤ
         /// scalar_of region coordinates zero = pos 65536
-        /// scalar_of region coordinates (suc n) = wrap 32 (near (scalar_of region coordinates n *ℤ
-        ///     axis_scalar (stored_bits region (6 * n)) (stored_bits region (6 * n + 2)) (stored_bits region (6 * n + 4))
-        ///     (coordinate_bits coordinates n)) 65536)
+        /// scalar_of region coordinates (suc n) = scalar_after (stored_bits region (6 * n)) (stored_bits region (6 * n + 2))
+        ///     (stored_bits region (6 * n + 4)) (coordinate_bits coordinates n) (scalar_of region coordinates n)
         /// ```
-        /// [`F2Dot14`], [`wrap`], [`near`], [`axis_scalar`], [`stored_bits`], [`coordinate_bits`]
+        /// [`F2Dot14`], [`scalar_after`], [`stored_bits`], [`coordinate_bits`]
         pub mod scalar_of {}
 
         /// the scalar of a region of a list
@@ -1446,11 +1446,11 @@ pub mod variations {
         /// [`F2Dot14`], [`Fraction`], [`whole`], [`times`], [`exact_axis_scalar`], [`stored_bits`], [`coordinate_bits`]
         pub mod exact_scalar {}
 
-        /// a scalar of n axes differs from their exact product by at most half a unit for the first axis and one for each other
+        /// a scalar of n axes differs from their exact product by at most half a unit for each axis
         ///
         /// ```text
         /// abbrev IsNearScalar : List ℕ → List F2Dot14 → ℕ → ℤ → Type 0
-        /// IsNearScalar region coordinates n scalar = IsOffBy (2 * n - 1) scalar (exact_scalar region coordinates n)
+        /// IsNearScalar region coordinates n scalar = IsOffBy n scalar (exact_scalar region coordinates n)
         /// ```
         /// [`F2Dot14`], [`IsOffBy`], [`exact_scalar`]
         pub mod IsNearScalar {}
@@ -1659,7 +1659,7 @@ pub mod variations {
         ///
         /// ```text
         /// abbrev sum_halves : List ℕ → List ℕ → ℕ → ℕ → ℕ
-        /// sum_halves regions subtable set n = (2 * axis_count regions - 1) * sum_of_magnitudes subtable set n
+        /// sum_halves regions subtable set n = axis_count regions * sum_of_magnitudes subtable set n
         /// ```
         /// [`axis_count`], [`sum_of_magnitudes`]
         pub mod sum_halves {}
@@ -1686,7 +1686,7 @@ pub mod variations {
         pub mod exact_advance {}
 
         /// a varied advance differs from the exact one by at most half a font unit and the bound of the set's sum:
-        /// |varied - exact| <= 1/2 + (axes - 1/2) * (sum of |delta|) / 65536, or 1/2 if there are no axes
+        /// |varied - exact| <= 1/2 + axes/2 * (sum of |delta|) / 65536
         ///
         /// ```text
         /// abbrev IsNearAdvance : List ℕ → List ℕ → List F2Dot14 → ℕ → ℕ → ℤ → Type 0

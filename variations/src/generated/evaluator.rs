@@ -147,7 +147,7 @@ fn clamp(value: Fixed, min: Fixed, max: Fixed) -> Fixed {
 }
 
 // Divides a part by its whole, as a quotient from 0 to 1.
-pub(crate) fn ratio(part: Fixed, whole: Fixed) -> Fixed {
+fn ratio(part: Fixed, whole: Fixed) -> Fixed {
     part / whole
 }
 

@@ -19,7 +19,6 @@ use crate::definitions::variations::Variations::IsNearRegionScalar;
 #[cfg(doc)]
 use crate::definitions::variations::Variations::IsRegionScalar;
 
-use super::evaluator::ratio;
 use font_types_proved::{F2Dot14, Fixed, Scalar};
 
 /// The extent of a region along one axis.
@@ -69,33 +68,38 @@ pub fn is_ignored(axis: RegionAxisCoordinates) -> bool {
 /// </details>
 #[must_use]
 pub fn axis_scalar(axis: RegionAxisCoordinates, coordinate: F2Dot14) -> Fixed {
+    scaled(Fixed::ONE, axis, coordinate)
+}
+
+// Multiplies a scalar by that of a region along one axis, and rounds once.
+fn scaled(scalar: Fixed, axis: RegionAxisCoordinates, coordinate: F2Dot14) -> Fixed {
     if is_ignored(axis) || coordinate == axis.peak_coord {
-        Fixed::ONE
+        scalar
     } else {
-        scalar_off_peak(axis, coordinate)
+        scaled_off_peak(scalar, axis, coordinate)
     }
 }
 
-// Returns `axis_scalar` of an axis that is not ignored, at another coordinate than the peak.
-fn scalar_off_peak(axis: RegionAxisCoordinates, coordinate: F2Dot14) -> Fixed {
+// Returns `scaled` of an axis that is not ignored, at another coordinate than the peak.
+fn scaled_off_peak(scalar: Fixed, axis: RegionAxisCoordinates, coordinate: F2Dot14) -> Fixed {
     let (start, peak, end) = (axis.start_coord, axis.peak_coord, axis.end_coord);
     if coordinate <= start || end <= coordinate {
         Fixed::ZERO
     } else if coordinate < peak {
-        ratio(widened(start, coordinate), widened(start, peak))
+        share(scalar, distance(start, coordinate), distance(start, peak))
     } else {
-        ratio(widened(coordinate, end), widened(peak, end))
+        share(scalar, distance(coordinate, end), distance(peak, end))
     }
 }
 
-// Returns the exact difference `to - from`.
-fn widened(from: F2Dot14, to: F2Dot14) -> Fixed {
-    to.to_fixed() - from.to_fixed()
+// Returns the exact difference `to - from` of raw values of 2.14, for a ratio of two.
+fn distance(from: F2Dot14, to: F2Dot14) -> Fixed {
+    Fixed::from_bits(i32::from(to.to_bits()) - i32::from(from.to_bits()))
 }
 
-// Returns a product of numbers from 0 to 1.
-fn scaled(scalar: Fixed, along: Fixed) -> Fixed {
-    scalar * along
+// Returns a scalar times a part of its whole, rounded once.
+fn share(scalar: Fixed, part: Fixed, whole: Fixed) -> Fixed {
+    scalar.mul_div(part, whole)
 }
 
 // Returns the coordinate along an axis, by default 0.
@@ -116,16 +120,16 @@ fn axis_of(region: &[u8], axis: u16) -> RegionAxisCoordinates {
     }
 }
 
-// Returns the scalar of a region along an axis.
-fn scalar_along(region: &[u8], coordinates: &[F2Dot14], axis: u16) -> Fixed {
-    axis_scalar(axis_of(region, axis), coordinate_along(coordinates, axis))
+// Returns `scaled` of a region's axis at the coordinate along it.
+fn scaled_along(scalar: Fixed, region: &[u8], coordinates: &[F2Dot14], axis: u16) -> Fixed {
+    scaled(scalar, axis_of(region, axis), coordinate_along(coordinates, axis))
 }
 
-// Returns the product of the scalars along all axes.
+// Returns the product of the scalars along all axes, rounded after each.
 fn product_of_scalars(region: &[u8], axes: u16, coordinates: &[F2Dot14]) -> Fixed {
     let mut scalar = Fixed::ONE;
     for axis in 0..axes {
-        scalar = scaled(scalar, scalar_along(region, coordinates, axis));
+        scalar = scaled_along(scalar, region, coordinates, axis);
     }
     scalar
 }
@@ -144,6 +148,8 @@ fn find_region(regions: &[u8], region: u16) -> Option<&[u8]> {
 
 /// Returns the scalar of a region, the product of those of its axes, from 0 to 1, or `None` if the
 /// list does not have the region. Axes beyond the coordinates are at their default.
+///
+/// The product is rounded once for each axis, in the order of the axes, half up.
 ///
 /// <details><summary>Contract</summary>
 ///
