@@ -120,8 +120,7 @@ pub fn metrics(font: &Font<'_>, coordinates: &[F2Dot14]) -> Option<Vec<(Tag, F48
     let mut scalars = vec![Fixed::ZERO; region_count(store)?.into()];
     let instance = StoreInstance::new(store, coordinates, &mut scalars)?;
     let delta = |record| {
-        let [outer, inner] = [4, 6].map(|field| u16::read_at(record, field).map(u32::from));
-        let set = DeltaSetIndex { outer: outer?, inner: inner? };
+        let set = DeltaSetIndex::from_u32(u32::read_at(record, 4)?);
         Some((Tag::read_at(record, 0)?, instance.delta(set)?))
     };
     records(mvar, 12, count?, size?)?.map(delta).collect()

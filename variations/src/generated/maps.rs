@@ -24,6 +24,28 @@ pub struct DeltaSetIndex {
     pub inner: u32,
 }
 
+impl DeltaSetIndex {
+    /// Returns the indices that 32 bits hold, the outer one in the high half, as in `COLR`, `MVAR`
+    /// and a `VariationIndex` table.
+    ///
+    /// Of `0xFFFF_FFFF` both are `0xFFFF`, those of an item without variation data. Test for it
+    /// before you add to a base of indices or look up its index in a map.
+    ///
+    /// <details><summary>Contract</summary>
+    ///
+    /// ```text
+    /// ensures outer { result.outer ≡ index / 2 ^ 16 }
+    /// ensures inner { result.inner ≡ index % 2 ^ 16 }
+    /// ensures unvaried { IsNoVariation result.outer result.inner ↔ index ≡ 0xFFFF_FFFF }
+    /// ```
+    /// [Notation](crate::definitions): [`IsNoVariation`]
+    /// </details>
+    #[must_use]
+    pub fn from_u32(index: u32) -> DeltaSetIndex {
+        split_entry(index, 16)
+    }
+}
+
 /// Returns whether the indices are those of an item without variation data.
 ///
 /// <details><summary>Contract</summary>

@@ -103,6 +103,22 @@ fn more_wide_columns_than_columns(rt: HostRuntime) {
 }
 
 #[test]
+fn indices_of_32_bits(rt: HostRuntime) {
+    for &(index, outer, inner) in &[
+        (0, 0, 0),
+        (0x1_0002, 1, 2),
+        (0xFFFF, 0, 0xFFFF),
+        (0xFFFF_0000, 0xFFFF, 0),
+        (0xFFFF_FFFE, 0xFFFF, 0xFFFE),
+    ] {
+        let found = DeltaSetIndex::from_u32(index);
+        assert!(rt; found == DeltaSetIndex { outer, inner }, "{index}");
+        assert!(rt; !is_no_variation(found), "{index}");
+    }
+    assert!(rt; is_no_variation(DeltaSetIndex::from_u32(0xFFFF_FFFF)));
+}
+
+#[test]
 fn maps_to_delta_sets(rt: HostRuntime) {
     for &(outer, inner, is_none) in &[
         (0xFFFF, 0xFFFF, true),
