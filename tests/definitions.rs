@@ -213,6 +213,11 @@ fn deltas() {
         .for_each(|_| (0..2).for_each(|_| sum.add(Fixed::from_bits(1 << 30), i32::MIN)));
     assert_eq!(sum.checked_finish(), Some(F48Dot16::from_bits(1 << 62)));
     assert!(sum != DeltaSum::new() && checked_delta_sum(&many[..2]).is_none());
+    // Partial sums beyond 64 bits, of values with a fraction.
+    for bits in [i64::MAX, i64::MAX, 3, i64::MIN, i64::MIN, -(1 << 62)] {
+        sum += F48Dot16::from_bits(bits);
+    }
+    assert_eq!(sum.checked_finish(), Some(F48Dot16::from_bits(1)));
     let many = vec![(Fixed::ONE, 1); 65_537];
     assert_eq!(checked_delta_sum(&many), Some(F48Dot16::from_i32(65_537)));
     assert_eq!(delta_sum(&many), F48Dot16::from_i32(65_537));

@@ -214,6 +214,8 @@ case("DeltaSum::add", "n: i128, x: i32, y: i32", "i128",
      lambda p, n, x, y: wrap(128, S(n) + p.times(x, y)))
 case("DeltaSum +=", "n: i128, m: i128", "i128", NEXT.format(f"sum += {SUM.format('m')}"),
      lambda p, n, m: wrap(128, S(n) + S(m)))
+case("DeltaSum += F48Dot16", "n: i128, x: i64", "i128",
+     NEXT.format("sum += F48Dot16::from_bits(x)"), lambda p, n, x: wrap(128, S(n) + S(x)))
 case("DeltaSum::finish", "n: i128", "i64",
      f"unsafe {{ {SUM.format('n')} }}.finish().to_bits()", lambda p, n: wrap(64, S(n)))
 case("DeltaSum::checked_finish", "n: i128", "?i64",

@@ -51,7 +51,8 @@ class Function:
         if operator == "Neg":
             return name == f"-{type_}"
         if sign := SIGNS.get(operator.removesuffix("Assign")):
-            other = " Point" if "<Point" in self.trait else " T" if "<T>" in self.trait else ""
+            found = re.search(r"<(Point|T\b|F48Dot16)", self.trait)
+            other = f" {found[1]}" if found else ""
             expected = f"{type_} {sign}{'=' * operator.endswith('Assign')}{other}"
             return name in (expected, f"{expected} {type_}")
         if operator in ("From", "TryFrom"):

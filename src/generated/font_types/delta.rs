@@ -135,6 +135,31 @@ impl AddAssign for DeltaSum {
     }
 }
 
+/// Adds a sum in 48.16, or a delta with a fraction, modulo `2^128`.
+///
+/// ```
+/// use font_types_proved::{DeltaSum, F48Dot16, Fixed};
+/// let mut sum = DeltaSum::new();
+/// sum.add(Fixed::ONE, 3);
+/// sum += F48Dot16::from_bits(0x8000);
+/// assert_eq!(sum.finish().to_string(), "3.5");
+/// ```
+///
+/// <details><summary>Contract</summary>
+///
+/// ```text
+/// ghost add_assign_gives = { λ x y sum. WrapsTo 128 (steps_of x +ℤ f48dot16_bits y)
+///     (steps_of sum) };
+/// ```
+/// [Notation](crate::definitions): [`WrapsTo`], [`steps_of`], [`f48dot16_bits`]
+/// </details>
+impl AddAssign<F48Dot16> for DeltaSum {
+    #[inline]
+    fn add_assign(&mut self, other: F48Dot16) {
+        self.steps = self.steps.wrapping_add(i128::from(other.to_bits()));
+    }
+}
+
 /// <details><summary>Contract</summary>
 ///
 /// ```text
