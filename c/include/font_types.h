@@ -8,10 +8,12 @@
  * fty_write_bytes. A program that calls only these needs no library.
  *
  *     views         fty_{absent,part,items,from}  fty_at_offset{16,24,32}
- *     fields        fty_{u8,i8,u16,i16,u24,i24,u32,i32,i64,uint}
- *       checked     fty_read_{u8,i8,u16,i16,u24,i24,u32,i32,i64,uint}
+ *     fields        fty_{u8,i8,u16,i16,u24,i24,u32,i32,u64,i64,uint}
+ *       checked     fty_read_{u8,i8,u16,i16,u24,i24,u32,i32,u64,i64,uint}
+ *       in turn     fty_take_{u8,i8,u16,i16,u24,i24,u32,i32,u64,i64,uint}  fty_take
  *       written     fty_write_{u8,u16,u24,u32,u64,uint,bytes}
- *       at pointers fty_peek_{u16,i16,u24,i24,u32,i32,i64}  fty_poke_{u16,u24,u32,u64}
+ *       at pointers fty_peek_{u16,i16,u24,i24,u32,i32,u64,i64}
+ *                   fty_poke_{u16,u24,u32,u64}
  *     rounding      fty_round_{i16,i32,i64}  fty_fixed_{floor,ceil,round,round_away}
  *                   fty_f26dot6_{floor,ceil,round}
  *     conversions   fty_fixed_to_{i32,f26dot6,f2dot14}  fty_f26dot6_to_i32  fty_fixed_from_i32
@@ -201,9 +203,14 @@ FTY_API_INLINE int32_t fty_peek_i32(const uint8_t *at) FTY_API_NOEXCEPT {
     return FTY_API_AS(int32_t, fty_peek_u32(at));
 }
 
+/** The integer of 64 bits, unsigned, of the 8 bytes at a pointer. */
+FTY_API_INLINE uint64_t fty_peek_u64(const uint8_t *at) FTY_API_NOEXCEPT {
+    return FTY_API_AS(uint64_t, fty_peek_u32(at)) << 32 | fty_peek_u32(at + 4);
+}
+
 /** The int64 of the 8 bytes at a pointer. */
 FTY_API_INLINE int64_t fty_peek_i64(const uint8_t *at) FTY_API_NOEXCEPT {
-    return FTY_API_AS(int64_t, FTY_API_AS(uint64_t, fty_peek_u32(at)) << 32 | fty_peek_u32(at + 4));
+    return FTY_API_AS(int64_t, fty_peek_u64(at));
 }
 
 /** Stores a uint16 in the 2 bytes at a pointer. */
@@ -457,6 +464,22 @@ FTY_API_INLINE int32_t fty_i32(fty_view view, size_t offset) FTY_API_NOEXCEPT {
     return fty_peek_i32(view.bytes + offset);
 }
 
+/** Reads an integer of 64 bits, unsigned, or fails by FTY_OUT_OF_BOUNDS. */
+FTY_API_INLINE fty_status fty_read_u64(
+    fty_view view, size_t offset, uint64_t *value) FTY_API_NOEXCEPT {
+    if (!fty_api_within(view, offset, 8))
+        return FTY_OUT_OF_BOUNDS;
+    *value = fty_peek_u64(view.bytes + offset);
+    return FTY_OK;
+}
+
+/** An integer of 64 bits, unsigned. 0 may mean that it is missing. */
+FTY_API_INLINE uint64_t fty_u64(fty_view view, size_t offset) FTY_API_NOEXCEPT {
+    if (!fty_api_within(view, offset, 8))
+        return 0;
+    return fty_peek_u64(view.bytes + offset);
+}
+
 /** Reads an int64, or fails by FTY_OUT_OF_BOUNDS. */
 FTY_API_INLINE fty_status fty_read_i64(
     fty_view view, size_t offset, int64_t *value) FTY_API_NOEXCEPT {
@@ -501,6 +524,119 @@ FTY_API_INLINE uint32_t fty_uint(fty_view view, size_t offset, size_t size) FTY_
     case 4: return fty_peek_u32(view.bytes + offset);
     default: return 0;
     }
+}
+
+/* ---- fields in turn: the first of a view, which moves to the bytes after it ---- */
+
+/** @cond */
+/* Moves a view by the length of its first field, and returns where that is. */
+FTY_API_INLINE const uint8_t *fty_api_next(fty_view *rest, size_t length) FTY_API_NOEXCEPT {
+    const uint8_t *const at = rest->bytes;
+    rest->bytes = at + length;
+    rest->length -= length;
+    return at;
+}
+/** @endcond */
+
+/** Takes the first `length` bytes. Absent, and the view stays, unless all of them are there. */
+FTY_API_INLINE fty_view fty_take(fty_view *rest, size_t length) FTY_API_NOEXCEPT {
+    const fty_view all = *rest;
+    if (length > all.length)
+        return fty_absent();
+    *rest = fty_api_view(all, length, all.length - length);
+    return fty_api_view(all, 0, length);
+}
+
+/** Takes a uint8. Fails by FTY_OUT_OF_BOUNDS, and the view stays. */
+FTY_API_INLINE fty_status fty_take_u8(fty_view *rest, uint8_t *value) FTY_API_NOEXCEPT {
+    if (rest->length == 0)
+        return FTY_OUT_OF_BOUNDS;
+    *value = *fty_api_next(rest, 1);
+    return FTY_OK;
+}
+
+/** Takes an int8. Fails by FTY_OUT_OF_BOUNDS, and the view stays. */
+FTY_API_INLINE fty_status fty_take_i8(fty_view *rest, int8_t *value) FTY_API_NOEXCEPT {
+    if (rest->length == 0)
+        return FTY_OUT_OF_BOUNDS;
+    *value = FTY_API_AS(int8_t, *fty_api_next(rest, 1));
+    return FTY_OK;
+}
+
+/** Takes a uint16. Fails by FTY_OUT_OF_BOUNDS, and the view stays. */
+FTY_API_INLINE fty_status fty_take_u16(fty_view *rest, uint16_t *value) FTY_API_NOEXCEPT {
+    if (rest->length < 2)
+        return FTY_OUT_OF_BOUNDS;
+    *value = fty_peek_u16(fty_api_next(rest, 2));
+    return FTY_OK;
+}
+
+/** Takes an int16. Fails by FTY_OUT_OF_BOUNDS, and the view stays. */
+FTY_API_INLINE fty_status fty_take_i16(fty_view *rest, int16_t *value) FTY_API_NOEXCEPT {
+    if (rest->length < 2)
+        return FTY_OUT_OF_BOUNDS;
+    *value = fty_peek_i16(fty_api_next(rest, 2));
+    return FTY_OK;
+}
+
+/** Takes a uint24. Fails by FTY_OUT_OF_BOUNDS, and the view stays. */
+FTY_API_INLINE fty_status fty_take_u24(fty_view *rest, uint32_t *value) FTY_API_NOEXCEPT {
+    if (rest->length < 3)
+        return FTY_OUT_OF_BOUNDS;
+    *value = fty_peek_u24(fty_api_next(rest, 3));
+    return FTY_OK;
+}
+
+/** Takes an int24. Fails by FTY_OUT_OF_BOUNDS, and the view stays. */
+FTY_API_INLINE fty_status fty_take_i24(fty_view *rest, int32_t *value) FTY_API_NOEXCEPT {
+    if (rest->length < 3)
+        return FTY_OUT_OF_BOUNDS;
+    *value = fty_peek_i24(fty_api_next(rest, 3));
+    return FTY_OK;
+}
+
+/** Takes a uint32. Fails by FTY_OUT_OF_BOUNDS, and the view stays. */
+FTY_API_INLINE fty_status fty_take_u32(fty_view *rest, uint32_t *value) FTY_API_NOEXCEPT {
+    if (rest->length < 4)
+        return FTY_OUT_OF_BOUNDS;
+    *value = fty_peek_u32(fty_api_next(rest, 4));
+    return FTY_OK;
+}
+
+/** Takes an int32. Fails by FTY_OUT_OF_BOUNDS, and the view stays. */
+FTY_API_INLINE fty_status fty_take_i32(fty_view *rest, int32_t *value) FTY_API_NOEXCEPT {
+    if (rest->length < 4)
+        return FTY_OUT_OF_BOUNDS;
+    *value = fty_peek_i32(fty_api_next(rest, 4));
+    return FTY_OK;
+}
+
+/** Takes an integer of 64 bits, unsigned. Fails by FTY_OUT_OF_BOUNDS, and the view stays. */
+FTY_API_INLINE fty_status fty_take_u64(fty_view *rest, uint64_t *value) FTY_API_NOEXCEPT {
+    if (rest->length < 8)
+        return FTY_OUT_OF_BOUNDS;
+    *value = fty_peek_u64(fty_api_next(rest, 8));
+    return FTY_OK;
+}
+
+/** Takes an int64. Fails by FTY_OUT_OF_BOUNDS, and the view stays. */
+FTY_API_INLINE fty_status fty_take_i64(fty_view *rest, int64_t *value) FTY_API_NOEXCEPT {
+    if (rest->length < 8)
+        return FTY_OUT_OF_BOUNDS;
+    *value = fty_peek_i64(fty_api_next(rest, 8));
+    return FTY_OK;
+}
+
+/**
+ * Takes an unsigned integer of `size` bytes, 1 to 4. Fails by FTY_OUT_OF_BOUNDS, also if `size` is
+ * another, and the view stays.
+ */
+FTY_API_INLINE fty_status fty_take_uint(
+    fty_view *rest, size_t size, uint32_t *value) FTY_API_NOEXCEPT {
+    const fty_status status = fty_read_uint(*rest, 0, size, value);
+    if (status == FTY_OK)
+        *rest = fty_api_view(*rest, size, rest->length - size);
+    return status;
 }
 
 /* ---- writing: big-endian fields at byte offsets in an array of `length` bytes; signed and

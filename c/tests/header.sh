@@ -111,7 +111,7 @@ if [[ -z ${BUILT-} ]] && command -v cbmc >/dev/null; then
     # So is each field of bytes and shifts, which constant expressions and other compilers read.
     mkdir "$work/shifts"
     sed '/^    FTY_API_LOAD(/d' "$work/called/font_types.h" >"$work/shifts/font_types.h"
-    for name in {read_,}{u16,i16,u24,i24,u32,i32,i64}; do
+    for name in {read_,}{u16,i16,u24,i24,u32,i32,u64,i64}; do
         called=$work/shifts asks "$name" >"$work/$name.shifts"
     done
     # Without a part of memmove in header.c, one statement fails, which is the part's.
