@@ -2,13 +2,8 @@
 #![allow(dead_code)]
 
 use font_types_proved::{
-    FWord, GlyphId16, Offset32, Scalar, ScalarArray, TableDataRef, Tag, UfWord, record,
+    FWord, GlyphId16, Offset32, OffsetValue, Scalar, ScalarArray, TableDataRef, Tag, UfWord, record,
 };
-
-/// Returns the bytes from where an [`Offset32`] at `offset` points, or `None` past the end.
-pub fn at_offset(table: &[u8], offset: usize) -> Option<&[u8]> {
-    table.get(Offset32::read_at(table, offset)?.to_u32() as usize..)
-}
 
 record! {
     #[derive(Clone, Copy, Debug, PartialEq)]
@@ -77,7 +72,8 @@ impl<'a> Font<'a> {
     pub fn glyph(&self, character: char) -> Option<GlyphId16> {
         let cmap = self.table(b"cmap")?;
         let encodings = 0..u16::read_at(cmap, 2)?;
-        let mut subtables = encodings.filter_map(|n| at_offset(cmap, 4 + 8 * usize::from(n) + 4));
+        let offset = |n| Offset32::read_at(cmap, 4 + 8 * usize::from(n) + 4);
+        let mut subtables = encodings.filter_map(|n| offset(n)?.resolve(cmap));
         subtables.find_map(|subtable| match u16::read_at(subtable, 0)? {
             4 => of_format_4(subtable, u16::try_from(u32::from(character)).ok()?),
             12 => of_format_12(subtable, character.into()),

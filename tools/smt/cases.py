@@ -432,6 +432,12 @@ def bytes_of(kind: Kind) -> None:
     case(f"{T}::read_at", "text: bytes, at: u64", f"?{result}",
          f"<{value} as Scalar>::read_at(text, at as usize).map(|it| it{get})",
          lambda p, text, at: some(text.has(at, size), extended(text.bytes(at, size))))
+    taken = f"{{ let mut rest = text; let taken = <{value} as Scalar>::take_from(&mut rest);"
+    case(f"{T}::take_from", "text: bytes", f"?{result}", f"{taken} taken.map(|it| it{get}) }}",
+         lambda p, text: some(text.has(ZERO, size), extended(text.bytes(ZERO, size))))
+    case(f"{T}::take_from, rest", "text: bytes, at: u64", "?u8",
+         f"{taken} let _ = taken; rest.get(at as usize).copied() }}",
+         lambda p, text, at: rest_byte(text, at, size))
     if T in "FWord UfWord GlyphId16 GlyphId24 NameId LongDateTime".split():
         case(f"{T}::to_be_bytes", f"x: {i}", f"[{size}]", f"{make}.to_be_bytes()",
              lambda p, x: big_endian(clip(x), size))
@@ -441,6 +447,15 @@ def bytes_of(kind: Kind) -> None:
     relation(f"{T}::write_at", f"text: room, x: {i}, at: u64", "bool",
              f"{make}.write_at(text, at as usize).is_some()",
              lambda p, text, x, at, result, after: written(text, clip(x), at, size, result, after))
+
+
+ZERO = z3.BitVecVal(0, 64)
+
+
+def rest_byte(text: Text, at: Any, size: int) -> Any:
+    """The byte at `at` after the first `size` bytes, which are passed if they are there."""
+    start = z3.If(text.has(ZERO, size), z3.BitVecVal(size, 64), ZERO)
+    return some(z3.ULT(at, text.length - start), text.byte(start + at))
 
 
 def written(text: Text, n: Any, at: Any, size: int, result: Any, after: Text) -> Any:

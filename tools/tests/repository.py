@@ -40,7 +40,7 @@ COUNTS = [
     ("tests/", ".rs", "return;", 0),
     ("tests/", ".rs", "/*", 0),
     ("crates/", ".rt", "\nmod ", 112),
-    ("crates/", ".edit", "# clause: ", 281),
+    ("crates/", ".edit", "# clause: ", 289),
     ("crates/", ".edit", "# control: ", 74),
     ("crates/fontval/", "stdin", "\n", 213),
     ("c/tests/", ".sh", "\n", 376),

@@ -1,7 +1,7 @@
 //! Offsets to tables.
 
 ghost use Rattle.std.specs.Prelude.{◌≡◌, ◌^◌, ◌↔◌, ℕ, pos, nat_lt, true, IsTrue, refl, IsNone};
-ghost use Rattle.std.specs.Prelude.{IfSome};
+ghost use Rattle.std.specs.Prelude.{IsSome, IfSome, ◌<◌, ◌≤◌, length, drop};
 ghost use Rattle.std.proofs.Common.{lit<};
 ghost use Rattle.font_base.specs.Uint24.{uint24_number, uint24_of, uint24_of_bytes};
 ghost use Rattle.font_base.specs.Uint24.{bytes_of_uint24};
@@ -308,6 +308,27 @@ pub trait OffsetValue: Copy {
         ensures { result ≡ number_of self }
     {
         self.value_u32() as usize
+    }
+
+    /// Returns the bytes from where the offset points, to the end of the table, or `None` if the
+    /// offset is null or past the end.
+    ///
+    /// ```
+    /// use font_types::{Offset16, OffsetValue};
+    /// let table = [0, 4, 9, 9, 1, 2];
+    /// assert_eq!(Offset16::new(4).resolve(&table), Some(&[1, 2][..]));
+    /// assert_eq!(Offset16::new(0).resolve(&table), None);
+    /// assert_eq!(Offset16::new(7).resolve(&table), None);
+    /// ```
+    fn resolve(self, table: &[u8]) -> Option<&[u8]>
+        ensures variant { IsSome result
+            ↔ ((0 < number_of self) × (number_of self ≤ length table.now)) }
+        ensures bytes { IfSome result (λ bytes. bytes.now ≡ drop (number_of self) table.now) }
+    {
+        match self.to_usize() {
+            0 => None,
+            start => table.get(start..),
+        }
     }
 
     // Null is zero.

@@ -119,6 +119,47 @@ impl<'a, T: Scalar> ScalarArray<'a, T> {
         Some(ScalarArray { raw: raw.get(..count)? })
     }
 
+    /// Reads an array of `count` elements from the start of `bytes`, and moves `bytes` to what is
+    /// after it, or returns `None` and moves nothing if the bytes end before it does.
+    ///
+    /// If `RAW_BYTE_LEN` is 0, the array is empty.
+    ///
+    /// ```
+    /// use font_types_proved::{Scalar, ScalarArray};
+    /// let mut rest = &[0, 2, 0x00, 0x5A, 0x00, 0x7A, 0xFF][..];
+    /// let count = u16::take_from(&mut rest).unwrap();
+    /// let ends = ScalarArray::<u16>::take_from(&mut rest, count.into()).unwrap();
+    /// assert_eq!((ends.len(), ends.last(), rest), (2, Some(0x7A), &[0xFF][..]));
+    /// assert!(ScalarArray::<u16>::take_from(&mut rest, 1).is_none());
+    /// assert_eq!(rest, [0xFF]);
+    /// ```
+    ///
+    /// <details><summary>Contract</summary>
+    ///
+    /// ```text
+    /// ensures variant { IsSome result ↔ (count * T.RAW_BYTE_LEN ≤ length bytes.old.now) }
+    /// ensures bytes { IfSome result (λ array.
+    ///     array_bytes array ≡ take (count * T.RAW_BYTE_LEN) bytes.old.now) }
+    /// ensures len { 0 < T.RAW_BYTE_LEN → IfSome result (λ array. array_len array ≡ count) }
+    /// ensures elements { IfSome result (λ array. (i : ℕ) → i < count → element_bytes array i
+    ///     ≡ take T.RAW_BYTE_LEN (drop (i * T.RAW_BYTE_LEN) bytes.old.now)) }
+    /// ensures rest { IfSome result (λ _.
+    ///     bytes.new.now ≡ drop (count * T.RAW_BYTE_LEN) bytes.old.now) }
+    /// ensures kept { IfNone result (bytes.new ≡ bytes.old) }
+    /// ```
+    /// [Notation](crate::definitions): [`array_bytes`], [`array_len`], [`element_bytes`]
+    /// </details>
+    #[must_use]
+    #[inline]
+    pub fn take_from(bytes: &mut &'a [u8], count: usize) -> Option<ScalarArray<'a, T>>
+    where
+        T::Raw: ByteChunks,
+    {
+        let array = ScalarArray::read_at(bytes, 0, count)?;
+        *bytes = &bytes[count * T::RAW_BYTE_LEN..];
+        Some(array)
+    }
+
     /// Returns the number of elements.
     ///
     /// <details><summary>Contract</summary>

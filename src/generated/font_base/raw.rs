@@ -321,6 +321,41 @@ pub trait Scalar: FixedSize {
         Self::read(bytes.get(offset..offset.checked_add(Self::RAW_BYTE_LEN)?)?)
     }
 
+    /// Reads the value at the start of `bytes`, and moves `bytes` to what is after it, or returns
+    /// `None` and moves nothing if fewer than `RAW_BYTE_LEN` bytes are left.
+    ///
+    /// ```
+    /// use font_types_proved::{Scalar, Tag};
+    /// let mut rest = &b"wght\x01\xF4\x02"[..];
+    /// assert_eq!(Tag::take_from(&mut rest), Some(Tag::new(b"wght")));
+    /// assert_eq!(u16::take_from(&mut rest), Some(500));
+    /// assert_eq!((u16::take_from(&mut rest), rest), (None, &[2][..]));
+    /// ```
+    ///
+    /// <details><summary>Contract</summary>
+    ///
+    /// ```text
+    /// ensures variant { IsSome result ↔ (Self.RAW_BYTE_LEN ≤ length bytes.old.now) }
+    /// ensures bytes { IfSome result (λ v.
+    ///     Self.Raw.bytes (raw_of v) ≡ take Self.RAW_BYTE_LEN bytes.old.now) }
+    /// ensures reads { IfSome result (λ v.
+    ///     IsValueOf Self.Raw.bytes of_raw (take Self.RAW_BYTE_LEN bytes.old.now) v) }
+    /// ensures value { IfSome result (λ v. IsTrue (is_scalar v)) }
+    /// ensures rest { IfSome result (λ _.
+    ///     bytes.new.now ≡ drop Self.RAW_BYTE_LEN bytes.old.now) }
+    /// ensures kept { IfNone result (bytes.new ≡ bytes.old) }
+    /// ```
+    /// [Notation](crate::definitions): [`IsValueOf`]
+    /// </details>
+    #[must_use]
+    #[inline]
+    fn take_from(bytes: &mut &[u8]) -> Option<Self> {
+        let (value, rest) = bytes.split_at_checked(Self::RAW_BYTE_LEN)?;
+        let value = Self::read(value)?;
+        *bytes = rest;
+        Some(value)
+    }
+
     /// Writes the raw bytes at `offset`, or returns `None` and writes nothing if fewer than
     /// `RAW_BYTE_LEN` bytes are left there.
     ///

@@ -483,6 +483,35 @@ pub trait OffsetValue: Copy {
     fn to_usize(self) -> usize {
         self.value_u32() as usize
     }
+
+    /// Returns the bytes from where the offset points, to the end of the table, or `None` if the
+    /// offset is null or past the end.
+    ///
+    /// ```
+    /// use font_types_proved::{Offset16, OffsetValue};
+    /// let table = [0, 4, 9, 9, 1, 2];
+    /// assert_eq!(Offset16::new(4).resolve(&table), Some(&[1, 2][..]));
+    /// assert_eq!(Offset16::new(0).resolve(&table), None);
+    /// assert_eq!(Offset16::new(7).resolve(&table), None);
+    /// ```
+    ///
+    /// <details><summary>Contract</summary>
+    ///
+    /// ```text
+    /// ensures variant { IsSome result
+    ///     ↔ ((0 < number_of self) × (number_of self ≤ length table.now)) }
+    /// ensures bytes { IfSome result (λ bytes. bytes.now ≡ drop (number_of self) table.now) }
+    /// ```
+    /// [Notation](crate::definitions)
+    /// </details>
+    #[must_use]
+    #[inline]
+    fn resolve(self, table: &[u8]) -> Option<&[u8]> {
+        match self.to_usize() {
+            0 => None,
+            start => table.get(start..),
+        }
+    }
 }
 
 /// <details><summary>Contract</summary>
