@@ -32,9 +32,9 @@
  *     version       fty_version
  *
  * Each function that the library exports has a contract that is proved; its comment states it.
- * What the functions in C return and write, and that they touch nothing else, is proved by CBMC
- * for every argument, and for views and arrays of less than 2^48 bytes. That a compiler reads
- * them as CBMC does is tested.
+ * What the functions in C return and write, and that they touch nothing else, is proved for every
+ * argument, of what Clang makes of them for a size_t of 64 bits and of 32. That other compilers
+ * read them so is tested.
  *
  * A number is a raw value with a number of fraction bits f: the int32_t 98304 is
  * 98304 / 2^16 = 1.5 in 16.16, for which f is 16. f is from 6 to 30, and at most the

@@ -1,4 +1,4 @@
-# The header: its names, what it promises beyond values, and that each caller can include it.
+# The header: its names, what it promises beyond values, its proof, and that each caller can include it.
 
 # The names that it declares, the libraries export and the table calls; and those that it has in C,
 # which header.c calls. Two are both: table.c declares these exports itself.
@@ -36,8 +36,9 @@ in_rust=$(cat src/generated/font_c/*.rs | tr -d '\n' | grep -oE '"C" fn fty_[^{]
     s/\bi(8|16|32|64)\b/int\1_t/g; s/usize/size_t/g; s/([(,]) +/\1/g' | sort)
 diff <(echo "$in_c") <(echo "$in_rust")
 
-calls=$(cc -E -Iinclude tests/header.c | awk '/^# /{own = $3 == "\"tests/header.c\""} own' | names)
-[[ -z $(comm -23 <(echo "$inline") <(echo "$calls")) ]]
+calls=$(c++ -std=c++14 -x c++ -E -Iinclude tests/header.c |
+    awk '/^# /{own = $3 == "\"tests/header.c\""} own' | names)
+[[ -z $(comm -23 <(echo "$inline") <(sort <<<"$calls"$'\n'"$calling")) ]]
 
 # Those that C++14 evaluates are in header.c's constant expressions.
 constants=$(c++ -std=c++14 -x c++ -E -P include/font_types.h | tr '\n' ' ' |
@@ -77,52 +78,35 @@ macros=$(cc -E -dM include/font_types.h | grep -oE '^#define (FONT|FTY)_[A-Z_]*'
 [[ $(sed 's/#define //' <<<"$macros" | tr '\n' ' ') == \
     'FONT_TYPES_H FTY_PAD_INIT FTY_TAG FTY_VERSION FTY_VERSION_NUMBER ' ]]
 
-# What header.c states of them, proved by CBMC; and refused, each statement, if none may hold. For
-# CBMC, products and quotients of two variables are calls of functions of header.c.
-mkdir "$work/called"
-sed -e 's|(view.length - offset) / size|(size_t)quotient(view.length - offset, size)|' \
-    -e 's|, count \* size)|, (size_t)times(count, size))|' \
-    -e 's|FTY_API_AS(int64_t, x) \* \([ay]\)|product(x, \1)|' \
-    -e 's|(n + d / 2) / d|(int64_t)quotient((uint64_t)(n + d / 2), (uint64_t)d)|' \
-    include/font_types.h >"$work/called/font_types.h"
-[[ $(diff include/font_types.h "$work/called/font_types.h" | grep -c '^>' || true) == 6 ]]
-asks() {
-    cbmc --function "$1" "-I${called:-$work/called}" tests/header.c --unwinding-assertions --unwind 9 \
-        --unwindset strcmp.0:50 --bounds-check --pointer-check --pointer-overflow-check \
-        --pointer-primitive-check --div-by-zero-check --signed-overflow-check \
-        --undefined-shift-check "${@:2}"
-}
-proves() {
-    local status=0
-    asks "$1" >"$work/$1.proof" 2>&1 || status=$?
-    asks "$1" -DWRONG=1 >"$work/$1.wrong" 2>&1 || status+=" and $?"
-    if [[ $status != '0 and 10' ]] ||
-        grep '\.assertion\.[0-9]*\] .*: SUCCESS$' "$work/$1.wrong" | grep -v ' havoc_slice '; then
-        tail -n 20 "$work/$1.proof"
-        echo "$1: $status"
-        return 255
-    fi
-}
-if [[ -z ${BUILT-} ]] && command -v cbmc >/dev/null; then
-    cc -std=c99 -Iinclude tests/header.c -o "$work/header"
-    export work
-    export -f asks proves
-    "$work/header" names | xargs -P "$(nproc)" -I{} bash -c 'proves {}'
-    # So is each field of bytes and shifts, which constant expressions and other compilers read.
-    mkdir "$work/shifts"
-    sed '/^    FTY_API_LOAD(/d' "$work/called/font_types.h" >"$work/shifts/font_types.h"
-    for name in {read_,}{u16,i16,u24,i24,u32,i32,u64,i64}; do
-        called=$work/shifts asks "$name" >"$work/$name.shifts"
+# What each returns and writes for every argument, and that nothing is undefined.
+solver=
+for python in python3 /usr/bin/python3; do
+    [[ -n $solver ]] || ! "$python" -c "import z3" 2>/dev/null || solver=$python
+done
+if [[ -z ${BUILT-} && -n $solver ]] && command -v clang-22 >/dev/null; then
+    proves() { "$solver" "$tools/smt/header.py" --builds "$1" include | sed '/ proved$/d'; }
+    export solver tools
+    export -f proves
+    "$solver" "$tools/smt/header.py" --list | xargs -P "$(nproc)" -I{} bash -o pipefail -c 'proves {}'
+    # What other compilers make of it returns and writes the same as what is proved, of the random
+    # arguments of each row.
+    "$solver" "$tools/smt/header.py" --program "$work/rows.c" include
+    answers() {
+        "$@" -std=gnu11 -w -Iinclude "$work/rows.c" -o "$work/rows"
+        "$work/rows" 10000
+    }
+    answers clang-22 -O2 >"$work/rows.proved"
+    # Of code that is not optimized, a sanitizer also sees a read of which nothing comes.
+    for options in -O3 '-O0 -fsanitize=address,undefined -fno-sanitize-recover=all'; do
+        for compiler in gcc clang; do
+            if command -v "$compiler" >/dev/null; then
+                # shellcheck disable=SC2086
+                diff <(answers "$compiler" $options) "$work/rows.proved"
+            fi
+        done
     done
-    # Without a part of memmove in header.c, one statement fails, which is the part's.
-    for wrong in '2 r_ok' '3 w_ok' '4 copy' '5 copy'; do
-        fails asks write_bytes "-DWRONG=${wrong% *}"
-        [[ $(grep -c ': FAILURE$' "$work/log") == 1 ]]
-        grep "${wrong#* }.*: FAILURE\$" "$work/log" >/dev/null
-    done
-    echo "header: $("$work/header" names | wc -l) functions proved by CBMC"
 else
-    echo "left out: the proof by CBMC"
+    echo "left out: the proof of the header, which needs clang-22 and python3-z3"
 fi
 
 # Enums may be as short as those of ARM without an operating system.

@@ -75,7 +75,8 @@ class Arithmetic:
     def multiply(self, a: BitVecRef, b: BitVecRef) -> BitVecRef:
         """If -2^m <= a < 2^m and -2^n <= b < 2^n, and m + n < w - 1, then a b is at most 2^(m+n),
         and at least the lesser of -2^m (2^n - 1) and -2^n (2^m - 1). If a <= x and b <= y, both
-        unsigned, and x y < 2^w, then a b <= x y. A product by 0 is 0."""
+        unsigned, and x y < 2^w, then a b <= x y. A product by 0 is 0. If a is at most the quotient q
+        of a number by b, which is not 0, then a b <= q b, which does not wrap."""
         width, greatest = a.size(), self.greatest(a) * self.greatest(b)
         if self.exact or is_constant(a) or is_constant(b):
             return self.keep(a * b, greatest) if greatest < 1 << width else a * b
@@ -87,7 +88,13 @@ class Arithmetic:
         if m + n < width - 1 and is_new:
             most, least = 1 << m + n, (1 << min(m, n)) - (1 << m + n)
             self.facts.append(z3.And(node <= most, node >= least))
+        if is_new:
             self.facts += [z3.Implies(it == 0, node == 0) for it in (a, b)]
+        for q, d in list(self.quotients) if is_new else ():
+            for factor, other in ((a, b), (b, a)):
+                if d.eq(other) and not q.eq(factor):
+                    fits = z3.And(d != 0, z3.ULE(factor, q))
+                    self.facts.append(z3.Implies(fits, z3.ULE(node, self.multiply(q, d))))
         return node
 
     def multiply_overflows(self, a: BitVecRef, b: BitVecRef, signed: bool) -> BoolRef:

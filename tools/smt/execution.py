@@ -49,9 +49,10 @@ class Machine:
         self, module: Module, arithmetic: Arithmetic, goals: Goals, loops: Loops | None = None
     ) -> None:
         self.module, self.arithmetic, self.goals, self.loops = module, arithmetic, goals, loops
-        self.memory = Memory(goals)
+        self.memory = Memory(goals, module.is_big)
         self.globals = globals_of(module)
         self.count, self.owned = 0, dict[str, Object]()
+        self.pages = dict[str, int]()
 
     def name(self, kind: str) -> str:
         self.count += 1
@@ -128,7 +129,7 @@ class Machine:
     def described(self, value: Value, it: Instruction, state: State) -> Value:
         """The metadata of a load or of a call: `!range` makes another value poison, `!noundef`
         makes poison undefined behavior."""
-        known = {"range", "noundef", "nonnull", "alias.scope", "noalias", "prof"}
+        known = {"range", "noundef", "nonnull", "alias.scope", "noalias", "prof", "nosanitize"}
         if it.metadata.keys() - known:
             raise Unsupported(f"metadata {it.metadata}")
         bounds = None
@@ -280,8 +281,8 @@ class Machine:
             return Address(text, constant(0))
         if found := re.match(r"getelementptr (.*?)\((.*)\)$", text):
             return steps.element(self, found[1] + found[2], state)
-        if found := re.match(r"inttoptr \(i64 (\d+) to ptr\)$", text):
-            return Address(None, constant(int(found[1])))
+        if found := re.match(r"inttoptr \(i(\d+) (-?\d+) to ptr\)$", text):
+            return Address(None, constant(int(found[2]) & (1 << int(found[1])) - 1))
         raise Unsupported(f"address {text}")
 
 

@@ -16,6 +16,9 @@ from values import Address, Number, Value, constant
 # Numbers by the name of a parameter; of a slice, its bytes.
 Given = dict[str, Union[int, bytes]]
 
+# Of how many bits an address and a length are.
+POINTER = 64
+
 # The size and the alignment of an element of a slice.
 ELEMENTS = {"bytes": (1, 1), "room": (1, 1), "terms": (8, 4)}
 
@@ -30,7 +33,14 @@ class Inputs(NamedTuple):
     variables: dict[str, BitVecRef]
 
 
+def use_pointers(width: int) -> None:
+    global POINTER
+    POINTER = width
+
+
 def width_of(type_: str) -> int:
+    if type_ == "size":
+        return POINTER
     return 1 if type_ == "bool" else int(type_[1:])
 
 
@@ -45,7 +55,8 @@ def byte_of(data: bytes) -> Callable[[BitVecRef], BitVecRef]:
 
 
 def inputs(case: Case, products: Products, given: Given | None = None) -> Inputs:
-    """Returns unknown arguments, or those that are given. A slice is at most 2^63 - 1 bytes."""
+    """Returns unknown arguments, or those that are given. A slice is at most 2^63 - 1 bytes, or
+    2^31 - 1 of a target of 32 bits. A `size` has the bits of a length, and 64 for the rule."""
     made = Inputs([], {}, [], [], {})
     for name, type_ in case.parameters:
         value = given[name] if given is not None else None
@@ -60,7 +71,7 @@ def inputs(case: Case, products: Products, given: Given | None = None) -> Inputs
                 int.from_bytes(value, "little") if isinstance(value, bytes) else value, bits.size()
             )
         made.arguments.append(Number(bits))
-        made.of_rule.append(bits)
+        made.of_rule.append(z3.ZeroExt(64 - POINTER, bits) if type_ == "size" else bits)
     return made
 
 
@@ -73,10 +84,11 @@ def slice_of(
     else:
         count = made.variables[f"{name}_length"] = z3.BitVec(f"{name}_length", 64)
         byte = z3.Function(name, z3.BitVecSort(64), z3.BitVecSort(8))
-        made.conditions.append(z3.ULE(count, ((1 << 63) - 1) // size))
+        made.conditions.append(z3.ULE(count, ((1 << POINTER - 1) - 1) // size))
     text = Text(z3.simplify(count * size), byte)
     made.memory[name] = Slice(text.length, align, byte)
-    made.arguments.extend([Address(name, constant(0)), Number(count)])
+    passed = z3.simplify(z3.Extract(POINTER - 1, 0, count))
+    made.arguments.extend([Address(name, constant(0)), Number(passed)])
     made.of_rule.append(Sums(products, text, count) if type_ == "terms" else text)
 
 

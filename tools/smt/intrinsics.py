@@ -31,6 +31,9 @@ def call(
         wrong = z3.Or(claim.poison, claim.bits == 0)
         machine.goals.check("an assumption is false", wrong, state)
         return None
+    if name.startswith("ubsantrap"):
+        machine.goals.panic("a check of undefined behavior", state)
+        return None
     if name.startswith(("memcpy", "memmove", "memset")):
         copy(machine, name, values, state)
         return None
@@ -98,6 +101,13 @@ def copy(machine: Machine, name: str, values: list[Value], state: State) -> None
     """Copies bytes, or sets each to one number. What `memcpy` copies is not where it is put,
     except in one place."""
     target, (size, poison) = address_of(values[0]), number_of(values[2])
+    is_apart = name.startswith("memcpy")
+    if not name.startswith("memset"):
+        source = address_of(values[1])
+        if not is_constant(size) or is_apart and source.object == target.object:
+            size = extend(False, 64, size)
+            machine.memory.move(target, source, size, poison, is_apart, state)
+            return
     if not is_constant(size) or not z3.is_false(poison):
         raise Unsupported(f"{name} of unknown length")
     count, memory = int(size.as_long()), machine.memory
@@ -106,7 +116,4 @@ def copy(machine: Machine, name: str, values: list[Value], state: State) -> None
     if name.startswith("memset"):
         memory.write(target, [number_of(values[1])] * count, 1, state)
         return
-    source = address_of(values[1])
-    if name.startswith("memcpy") and source.object == target.object:
-        raise Unsupported("memcpy within an object")
     memory.write(target, memory.read(source, count, 1, state), 1, state)

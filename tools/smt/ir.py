@@ -168,9 +168,14 @@ def instruction(line: str) -> Instruction:
 
 
 class Module:
-    """The functions, constants and metadata of a file of IR."""
+    """The functions, constants and metadata of a file of IR. The layout of its target says whether
+    the first byte of a number is its highest, and how many bits an address has."""
 
     def __init__(self, text: str) -> None:
+        layout = re.search(r'^target datalayout = "(.*)"$', text, re.M)
+        parts = layout[1].split("-") if layout else ["e"]
+        self.is_big = parts[0] == "E"
+        self.pointer = next((int(it.split(":")[1]) for it in parts if it[:2] == "p:"), 64)
         self.functions: dict[str, Function] = {}
         self.constants: dict[str, Constant] = {}
         self.metadata: dict[str, str] = {}

@@ -6,7 +6,7 @@ from collections.abc import Callable
 from typing import NamedTuple, Union
 
 import z3
-from z3 import BitVecRef
+from z3 import BitVecRef, BoolRef
 
 from ir import Module, array_of, size_of, split_commas, stored_size, take_type
 from state import Goals, State
@@ -59,6 +59,8 @@ def globals_of(module: Module) -> dict[str, Object]:
     found: dict[str, Object] = {}
     for name, (type_, text, align) in module.constants.items():
         try:
+            if text[:2] != 'c"' and (module.is_big or module.pointer != 64):
+                raise Unsupported("a constant of another layout")
             cells = tuple(cells_of(type_, text))
             if len(cells) != size_of(type_):
                 raise Unsupported(f"constant {text}")
@@ -90,10 +92,11 @@ def cells_of(type_: str, text: str) -> list[Cell]:
 
 
 class Memory:
-    """Loads and stores of a machine. `goals` takes each condition that must not hold."""
+    """Loads and stores of a machine. `goals` takes each condition that must not hold. The bytes of
+    a number are stored from the lowest on or, if `is_big`, from the highest on."""
 
-    def __init__(self, goals: Goals) -> None:
-        self.goals = goals
+    def __init__(self, goals: Goals, is_big: bool = False) -> None:
+        self.goals, self.order = goals, 1 if is_big else -1
 
     def object(self, address: Address, state: State) -> Object:
         if address.object is None:
@@ -145,6 +148,37 @@ class Memory:
         at = places[0]
         state.memory[name] = it._replace(cells=it.cells[:at] + (*cells,) + it.cells[at + size :])
 
+    def move(
+        self,
+        to: Address,
+        of: Address,
+        size: BitVecRef,
+        poison: BoolRef,
+        is_apart: bool,
+        state: State,
+    ) -> None:
+        """Copies so many bytes, of one slice to it or to another, as if all were read first. If
+        `is_apart`, they must not overlap, except in one place."""
+        target, source = self.object(to, state), self.object(of, state)
+        if not (isinstance(target, Slice) and isinstance(source, Slice)):
+            raise Unsupported("memmove of unknown length")
+        for it, place in ((target, to), (source, of)):
+            outside = z3.Or(z3.UGT(place.offset, it.length), z3.UGT(size, it.length - place.offset))
+            wrong = z3.Or(poison, place.poison, outside)
+            self.goals.check("a copy is poison or out of bounds", wrong, state)
+
+        if is_apart and to.object == of.object:
+            distances = to.offset - of.offset, of.offset - to.offset
+            overlap = z3.Or([z3.And(it != 0, z3.ULT(it, size)) for it in distances])
+            self.goals.check("a copy of bytes that overlap", overlap, state)
+        here, there = target.byte, source.byte
+
+        def byte(at: BitVecRef) -> BitVecRef:
+            moved = there(z3.simplify(of.offset + (at - to.offset)))
+            return z3.simplify(z3.If(z3.ULT(at - to.offset, size), moved, here(at)))
+
+        state.memory[str(to.object)] = target._replace(byte=byte)
+
     def written(self, it: Slice, offset: BitVecRef, cells: list[Cell], state: State) -> Slice:
         """Returns a slice after a store. What a slice holds is never poison."""
         numbers = [cell if isinstance(cell, Number) else NOTHING for cell in cells]
@@ -167,7 +201,7 @@ class Memory:
                 return first.address
             raise Unsupported("a load of what is no address")
         numbers = [it if isinstance(it, Number) else NOTHING for it in cells]
-        bits = [it.bits for it in reversed(numbers)]
+        bits = [it.bits for it in numbers[:: self.order]]
         together = z3.simplify(z3.Concat(bits)) if len(bits) > 1 else bits[0]
         return Number(together, any_of(*(it.poison for it in numbers)))
 
@@ -183,6 +217,6 @@ class Memory:
         elif isinstance(value, Address):
             self.write(address, parts_of(value), align, state)
         else:
-            bytes_ = range(0, 8 * stored_size(type_), 8)
+            bytes_ = range(0, 8 * stored_size(type_), 8)[:: -self.order]
             parts = (z3.simplify(z3.Extract(i + 7, i, value.bits)) for i in bytes_)
             self.write(address, [Number(it, value.poison) for it in parts], align, state)

@@ -15,7 +15,7 @@ from cases import Case
 
 from inputs import (
     ELEMENTS, Given, Inputs, byte_of, chosen, inputs, of_model, result_width, run_library, shown,
-    shown_result,
+    shown_result, use_pointers,
 )  # fmt: skip
 from ir import Module
 from loops import Loops
@@ -43,14 +43,16 @@ class Unknown(Exception):
 
 class Proof:
     def __init__(
-        self, module: Module, case: Case, library: ctypes.CDLL, goals: Path | None = None
+        self, module: Module, case: Case, library: ctypes.CDLL | None, goals: Path | None = None
     ) -> None:
+        """Without a library, the code is of another processor, and no argument is run by it."""
         self.module, self.case, self.library, self.folder = module, case, library, goals
         self.goals = self.asked = self.agreed = 0
         # No number of a rule has as many bits.
-        has_64 = case.has("i64", "u64", "room", "bytes")
+        has_64 = case.has("i64", "u64", "size", "room", "bytes")
         has_128 = case.has("i128", "terms") or "i128" in case.returns
         of_32 = 64 if case.name.startswith("Matrix") else 68
+        use_pointers(module.pointer)
         use_width(200 if has_128 else 90 if has_64 else of_32)
 
     def run(self) -> None:
@@ -152,12 +154,16 @@ class Proof:
             refute("undefined behavior: the result is poison", [number_of(end.value).poison])
         if found:
             raise Refused(f"{found[0]} {at}")
+        (end,) = ends
+        read = z3.simplify(number_of(end.value).bits)
+        if self.library is None:
+            here = known._replace(memory={name: end.memory[name] for name in known.memory})
+            self.compare(products, here, read.as_long(), at)
+            return
         result, left = run_library(self.library, self.case, given)
         here = known._replace(memory={
             name: Slice(constant(len(data)), 1, byte_of(data)) for name, data in left.items()
         })  # fmt: skip
-        (end,) = ends
-        read = z3.simplify(number_of(end.value).bits)
         same = read.eq(constant(result, read.size()))
         for name, data in left.items():
             it = end.memory[name]
@@ -171,7 +177,7 @@ class Proof:
         width = result_width(self.case)
         wrong = z3.simplify(z3.Not(z3.And(self.right(products, given, constant(result, width)))))
         if not z3.is_false(wrong) and self.solver(wrong, []).check() != z3.unsat:
-            raise Refused(f"the compiled Rust returns {shown_result(self.case, result)} {at}")
+            raise Refused(f"the compiled code returns {shown_result(self.case, result)} {at}")
 
     def search(self) -> None:
         """Looks for arguments for which the function is wrong."""

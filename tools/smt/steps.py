@@ -171,6 +171,10 @@ def select(machine: Machine, it: Instruction, state: State) -> Value:
         if isinstance(chosen, list):
             raise Unsupported("select of a structure")
         return chosen._replace(poison=any_of(choice.poison, chosen.poison))
+    if isinstance(yes, Address) and isinstance(no, Address) and yes.object and not no.object:
+        no = null_of(machine, yes, no, state)
+    elif isinstance(yes, Address) and isinstance(no, Address) and no.object and not yes.object:
+        yes = null_of(machine, no, yes, state)
     if isinstance(yes, Address) and isinstance(no, Address) and yes.object == no.object:
         poison = any_of(choice.poison, choose(condition, yes.poison, no.poison))
         return Address(yes.object, z3.If(condition, yes.offset, no.offset), poison)
@@ -226,21 +230,34 @@ def compare_addresses(machine: Machine, kind: str, a: Address, b: Address, state
 
 
 def number_of_address(machine: Machine, address: Address, state: State) -> BitVecRef:
-    """Objects are somewhere: aligned, not at zero, and not across the end of memory."""
+    """Objects are somewhere: aligned, not at zero, and not across the end of memory. For arguments
+    that are known, each object has a page of its own."""
     if address.object is None:
         return address.offset
+    if machine.arithmetic.exact:
+        page = machine.pages.setdefault(address.object, 4096 * (1 + len(machine.pages)))
+        return z3.simplify(page + address.offset)
     place, base = machine.memory.object(address, state), z3.BitVec(f"at_{address.object}", 64)
-    facts = [base != 0, z3.ULE(base, -place.length - 1), base & place.align - 1 == 0]
+    most = constant((1 << machine.module.pointer) - 1)
+    facts = [base != 0, z3.ULE(base, most - place.length), base & place.align - 1 == 0]
     machine.arithmetic.facts += facts
     return base + address.offset
+
+
+def null_of(machine: Machine, of: Address, null: Address, state: State) -> Address:
+    """An address without an object, by its distance from an object, out of whose bounds it is."""
+    base = number_of_address(machine, of._replace(offset=constant(0)), state)
+    return Address(of.object, null.offset - base, null.poison)
 
 
 def address_as_number(machine: Machine, it: Instruction, state: State) -> Value:
     source, target = it.text.rsplit(" to ", 1)
     address = address_of(operand(machine, source, state))
-    if target != "i64":
+    width = machine.module.pointer
+    if target != f"i{width}":
         raise Unsupported(it.text)
-    return Number(number_of_address(machine, address, state), address.poison)
+    number = number_of_address(machine, address, state)
+    return Number(number if width == 64 else z3.Extract(width - 1, 0, number), address.poison)
 
 
 def get_element(machine: Machine, it: Instruction, state: State) -> Value:
