@@ -25,17 +25,18 @@ except ModuleNotFoundError:
     sys.exit(1)
 
 import arithmetic
+import decimals
 import faults
 import rules
 import texts
 from build import build
-from cases import CASES
+from cases import CASES, Case
 from ir import Module
 from proof import Proof, Refused, Unknown
 from values import Unsupported
 
 
-def prove(proof: Proof, turns: int) -> str:
+def prove(proof: Proof | decimals.Parsing, turns: int) -> str:
     """Returns why a function is not proved, or nothing."""
     try:
         proof.sample(turns)
@@ -52,15 +53,16 @@ def prove(proof: Proof, turns: int) -> str:
 def run(options: argparse.Namespace, room: Path) -> list[str]:
     """Proves the functions whose names have a pattern, and returns why each is not, or nothing."""
     found, agreed = [], 0
-    cases = [it for it in CASES if re.search(options.only, it.name)]
-    built = build(options.tree, room, cases, options.checked)
+    every: list[Case | decimals.Row] = [*CASES, *decimals.ROWS]
+    rows = [it for it in every if re.search(options.only, it.name)]
+    built = build(options.tree, room, rows, options.checked)
     module, library = Module(built.ir), ctypes.CDLL(str(built.library))
-    for case in cases:
-        began, proof = time.process_time(), Proof(module, case, library, options.goals)
+    for row in rows:
+        began, proof = time.process_time(), decimals.proof_of(module, row, library, options.goals)
         found.append(prove(proof, options.turns))
         seconds, agreed = time.process_time() - began, agreed + proof.agreed
         shown = f"{proof.goals:3} goals {seconds:7.2f} s  {found[-1] or 'proved'}"
-        print(f"{case.name:40} {shown}", flush=True)
+        print(f"{row.name:40} {shown}", flush=True)
     for name in texts.FRACTION_BITS:
         if re.search(options.only, f"{name}::to_decimal"):
             found.append(texts.fault(library, name))
@@ -81,7 +83,7 @@ def main() -> int:
     sys.setrecursionlimit(20000)
     if options.mutants:
         return int(faults.report(options.tree, options.only) > 0)
-    for name, lemma in (*arithmetic.lemmas(), *rules.lemmas(), *rules.bounds()):
+    for name, lemma in (*arithmetic.lemmas(), *rules.lemmas(), *rules.bounds(), *decimals.lemmas()):
         solver = z3.Solver()
         solver.add(z3.Not(lemma))
         if solver.check() != z3.unsat:

@@ -2,11 +2,13 @@
 
 import shutil
 import subprocess
+from collections.abc import Sequence
 from pathlib import Path
 from typing import NamedTuple
 
 import texts
 from cases import Case
+from decimals import Row
 
 # How a slice of unknown length is passed: the type of its elements.
 SLICES = {"bytes": "u8", "room": "u8", "terms": "(Fixed, i32)"}
@@ -70,10 +72,11 @@ def wrapper(case: Case) -> str:
     )
 
 
-def build(tree: Path, room: Path, cases: list[Case], checked: bool) -> Built:
+def build(tree: Path, room: Path, rows: Sequence[Case | Row], checked: bool) -> Built:
     """Compiles a copy of the package in a room: as `cargo build --release` does or, checked, with
     checks of overflow and debug assertions."""
     shutil.copytree(tree / "src", room / "src")
+    cases = {it.symbol: it.case if isinstance(it, Row) else it for it in rows}.values()
     with (room / "src/lib.rs").open("a") as lib:
         lib.write(HEAD + "".join(map(wrapper, cases)) + texts.WRAPPERS + "}\n")
     checks = [

@@ -290,6 +290,18 @@ for m, n in zip(ENTRIES[::2], ENTRIES[1::2]):
          lambda p, *v, m=m, n=n: (lambda it: some(all_fit(*it.values()), two(it[m], it[n])))(
              product(p, *v)))
 
+point = "Point::new(Fixed::from_bits(x), Fixed::from_bits(y))"
+for i, axis in enumerate("xy"):
+    # By the lemmas IMAGE and IN TURN, these are within the bounds, where all fits. `composed` is
+    # the rows of `Matrix * Matrix` and of `Matrix * Point` after each other, with COMPOSED.
+    case(f"laws::image, {axis}", entries("a") + ", x: i32, y: i32", "i32",
+         f"laws::image({matrix('a')}, {point}).{axis}.to_bits()",
+         lambda p, *v, i=i: wrap(32, moved(p, *v)[i]))
+    case(f"laws::in_turn, {axis}", given + ", x: i32, y: i32", "i32",
+         f"laws::in_turn({matrix('a')}, {matrix('b')}, {point}).{axis}.to_bits()",
+         lambda p, *v, i=i: wrap(32, moved(
+             p, *v[:6], *(wrap(32, it) for it in moved(p, *v[6:])))[i]))
+
 
 # ---------------------------------------------------------------- scales
 SCALE = "Scale::from_factor(Fixed::from_bits(s))"

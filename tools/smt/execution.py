@@ -6,7 +6,7 @@ to refute each condition under which it does one of the last two."""
 import re
 from collections.abc import Iterator, Sequence
 from contextlib import suppress
-from typing import NamedTuple
+from typing import NamedTuple, Protocol
 
 import z3
 from z3 import BitVecRef, BoolRef
@@ -24,7 +24,6 @@ from ir import (
     take_attributes,
     take_type,
 )
-from loops import Loops
 from memory import Memory, Object, globals_of
 from state import Goals, State
 
@@ -44,9 +43,21 @@ class End(NamedTuple):
     conditions: list[BoolRef]
 
 
+class Cuts(Protocol):
+    """What knows the loops that are cut at their heads, where an invariant holds."""
+
+    def is_head(self, function: Function, block: str) -> bool:
+        """Returns whether a block is the head of a loop."""
+
+    def at_head(
+        self, function: Function, block: str, values: dict[str, Value], state: State
+    ) -> dict[str, Value] | None:
+        """Returns the values with which a path goes on at a head, or nothing after a turn."""
+
+
 class Machine:
     def __init__(
-        self, module: Module, arithmetic: Arithmetic, goals: Goals, loops: Loops | None = None
+        self, module: Module, arithmetic: Arithmetic, goals: Goals, loops: Cuts | None = None
     ) -> None:
         self.module, self.arithmetic, self.goals, self.loops = module, arithmetic, goals, loops
         self.memory = Memory(goals, module.is_big)

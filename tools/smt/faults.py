@@ -12,10 +12,16 @@ from typing import Any
 
 from build import Refusal, build
 from cases import CASES, Case
+from decimals import ROWS, Row, proof_of
 from ir import Module
-from proof import Proof, Refused, Unknown
+from proof import Refused, Unknown
 from values import Unsupported
 
+# Of parsing, the seven formats.
+TRIED: list[Case | Row] = [
+    *CASES,
+    *(it for it in ROWS if it.name.endswith("from_decimal_bytes(text)")),
+]
 NUMBERED = re.compile(r"!\d+|#\d+|@(?:alloc_|anon\.)\w+(?:\.\d+)*|17h[0-9a-f]{16}E")
 
 
@@ -41,7 +47,7 @@ def bodies(ir: str) -> dict[str, str]:
     }
 
 
-def refused(tree: Path, cases: list[Case], right: dict[str, str]) -> tuple[str, str]:
+def refused(tree: Path, cases: list[Case | Row], right: dict[str, str]) -> tuple[str, str]:
     """Returns a verdict on wrong Rust, and what shows it."""
     with tempfile.TemporaryDirectory() as room:
         try:
@@ -52,7 +58,7 @@ def refused(tree: Path, cases: list[Case], right: dict[str, str]) -> tuple[str, 
         changed = [it for it in cases if now[f"@{it.symbol}"] != right[f"@{it.symbol}"]]
         module, reasons = Module(built.ir), []
         for case in changed:
-            proof = Proof(module, case, library)
+            proof = proof_of(module, case, library)
             try:
                 proof.sample(3)
                 proof.run()
@@ -69,7 +75,7 @@ def report(tree: Path, only: str) -> int:
     """Tries each mutant, and returns how many are neither refused nor outside of the list."""
     counts: Counter[str] = Counter()
     with tempfile.TemporaryDirectory() as room:
-        right = bodies(build(tree, Path(room), CASES, False).ir)
+        right = bodies(build(tree, Path(room), TRIED, False).ir)
     for edit in edits(tree):
         if not re.search(only, edit.name):
             continue
@@ -84,7 +90,7 @@ def report(tree: Path, only: str) -> int:
                 for start, end, new in sorted(edit.changes, reverse=True):
                     text = text[:start] + new + text[end:]
                 (copy / edit.file).write_text(text)
-                verdict, shown = refused(copy, CASES, right)
+                verdict, shown = refused(copy, TRIED, right)
         counts[verdict] += 1
         print(f"{edit.name}: {verdict} {shown}".rstrip(), flush=True)
     print(

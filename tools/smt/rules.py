@@ -114,35 +114,35 @@ def lemmas() -> Iterator[tuple[str, BoolRef]]:
 
 
 def bounds() -> Iterator[tuple[str, BoolRef]]:
-    """The bounds of matrices that docs/PROMISES.md states, of all integers, for the coordinate x.
-    A `near` product is any integer that is close to it. Both sides are multiplied by 2^32."""
-    uxx, uxy, udx, vxx, vyx, vxy, vyy, vdx, vdy, x, y = z3.Ints(
-        "uxx uxy udx vxx vyx vxy vyy vdx vdy x y"
-    )
+    """The bounds of matrices, of all integers. For the coordinate x, (u, v, d) is (xx, xy, dx) of
+    the matrix a, and for y (yx, yy, dy). A rounded product, as `near` is one, is any integer within
+    a half of the product. Both sides are multiplied by 2^32, and of IMAGE by 2^16."""
+    u, v, d, bxx, byx, bxy, byy, bdx, bdy, x, y = z3.Ints("u v d xx yx xy yy dx dy x y")
     q = [z3.Int(f"q{i}") for i in range(8)]
-    exact = uxx * (vxx * x + vxy * y + vdx * 65536) + uxy * (vyx * x + vyy * y + vdy * 65536)
 
     def size(n: z3.ArithRef) -> z3.ArithRef:
         return z3.If(n < 0, -n, n)
 
-    def close(it: z3.ArithRef, n: z3.ArithRef) -> BoolRef:
-        return z3.And(2 * (it * 65536 - n) <= 65536, 2 * (n - it * 65536) <= 65536)
+    def within(error: z3.ArithRef, bound: z3.ArithRef, products: list[z3.ArithRef]) -> BoolRef:
+        near_all = [2 * size(it * 65536 - n) <= 65536 for it, n in zip(q, products)]
+        return z3.Implies(z3.And(near_all), z3.And(error <= bound, -error <= bound))
 
-    def within(result: z3.ArithRef, bound: z3.ArithRef, products: list[z3.ArithRef]) -> BoolRef:
-        error = result * 2**32 - (exact + udx * 2**32)
-        close_all = z3.And([close(*it) for it in zip(q, products)])
-        return z3.Implies(close_all, z3.And(error <= bound, -error <= bound))
-
-    entries = [uxx * vxx, uxy * vyx, uxx * vxy, uxy * vyy, uxx * vdx, uxy * vdy]
+    exact = u * (bxx * x + bxy * y + bdx * 65536) + v * (byx * x + byy * y + bdy * 65536)
+    image = (q[0] + q[1] + d) * 2**16 - (u * x + v * y + d * 2**16)
+    yield "IMAGE", within(image, z3.IntVal(2**16), [u * x, v * y])
+    entries = [u * bxx, v * byx, u * bxy, v * byy, u * bdx, v * bdy]
+    result = q[6] + q[7] + q[4] + q[5] + d
     yield "COMPOSED", within(
-        q[6] + q[7] + q[4] + q[5] + udx, 65536 * (size(x) + size(y)) + 2 * 2**32,
+        result * 2**32 - (exact + d * 2**32),
+        65536 * (size(x) + size(y)) + 2 * 2**32,
         [*entries, (q[0] + q[1]) * x, (q[2] + q[3]) * y],
-    )  # fmt: skip
-    moved = [vxx * x, vxy * y, vyx * x, vyy * y]
+    )
+    moved = [bxx * x, bxy * y, byx * x, byy * y]
     yield "IN TURN", within(
-        q[4] + q[5] + udx, 65536 * (size(uxx) + size(uxy)) + 2**32,
-        [*moved, uxx * (q[0] + q[1] + vdx), uxy * (q[2] + q[3] + vdy)],
-    )  # fmt: skip
+        (q[4] + q[5] + d) * 2**32 - (exact + d * 2**32),
+        65536 * (size(u) + size(v)) + 2**32,
+        [*moved, u * (q[0] + q[1] + bdx), v * (q[2] + q[3] + bdy)],
+    )
 
 
 class Products:

@@ -90,7 +90,10 @@ def functions() -> Iterator[Function]:
 
 def rows() -> list[tuple[str, str]]:
     """Returns the name and the Rust of each row."""
-    show = "import cases; print([(it.name.split(',')[0], it.body) for it in cases.CASES])"
+    show = (
+        "import cases, decimals; rows = [*cases.CASES, *(it.case for it in decimals.ROWS)];"
+        "print([(it.name.split(',')[0], it.body) for it in rows])"
+    )
     for python in (sys.executable, "/usr/bin/python3"):
         command = [python, "-B", "-c", show]
         shown = subprocess.run(command, cwd=ROOT / "tools/smt", capture_output=True, text=True)
