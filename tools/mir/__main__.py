@@ -34,9 +34,9 @@ OPTIONS = {"--proved", "--mutants", "--release", "--write"}
 ONE_SIDED = {
     "a constant that a function uses, in Rust": 32,
     "a constant that none uses, in Rust": 81,
-    "an impl's copy of a trait's default, in Rattle": 80,
+    "an impl's copy of a trait's default, in Rattle": 108,
     "another trait of a closure, in Rattle": 19,
-    "declared by a trait or dropped, in Rattle": 41,
+    "declared by a trait or dropped, in Rattle": 43,
     "derived `Clone` or `Eq`, in Rust": 74,
     "derived besides, in Rust": 11,
     "of a module that is left out, in Rattle": 48,
