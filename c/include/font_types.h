@@ -73,10 +73,10 @@
 #endif
 
 /** The version of this header. */
-#define FTY_VERSION "0.8.0"
+#define FTY_VERSION "0.9.0"
 
 /** The same as a number, major << 16 | minor << 8 | patch: later versions are greater. */
-#define FTY_VERSION_NUMBER 0x000800
+#define FTY_VERSION_NUMBER 0x000900
 
 /** @cond */
 #ifdef __cplusplus
