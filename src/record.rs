@@ -66,7 +66,7 @@ impl<T: Scalar<Raw = [u8; S]>, const S: usize, const N: usize> Scalar for [T; N]
 #[diagnostic::on_unimplemented(
     message = "`{Self}` cannot be a field of a record",
     label = "neither a scalar, nor an array of scalars",
-    note = "a field is a scalar, as `u16` or `Tag`, a record, or an array of these, as `[u8; 10]`"
+    note = "a field is a scalar, such as `u16`, a record, or an array of either, such as `[u8; 10]`"
 )]
 pub trait RecordField: Sized {
     const FIELD_LEN: usize;
@@ -100,7 +100,8 @@ impl<T: Scalar> RecordField for T {
 
 /// Implements [`FixedSize`](crate::FixedSize), [`Scalar`](crate::Scalar) and
 /// [`TableHeader`](crate::TableHeader) for a struct whose fields, stored one after another, are
-/// scalars, arrays of scalars, and other records.
+/// scalars, arrays of scalars, and other records. The struct has named fields, and neither lifetimes
+/// nor other parameters.
 ///
 /// ```
 /// use font_types_proved::{FWord, ScalarArray, UfWord, record};

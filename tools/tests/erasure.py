@@ -105,6 +105,8 @@ fn f() { let _bytes = raw.as_slice(); &(0..n < 1) } ⇒ fn f() {  &(0..n < 1) }
 /// Two.⏎///⏎FOLD/// ensures { T }⏎/// ensures b {⏎///     V }⏎END⏎fn f() -> u8⏎{ 2 }
 pub trait A { ghost b: { Self }; ghost K: { ℕ }; } ⇒ \
 FOLD/// ghost b: { Self };⏎END⏎pub trait A {   }
+type A;⏎// One.⏎⏎// Two.⏎ghost use A;⏎fn f() {} ⇒ type A;⏎// One.⏎⏎fn f() {}
+type A;⏎// #[doc(alias = "a")]⏎fn f() {} ⇒ type A;⏎#[doc(alias = "a")]⏎fn f() {}
 impl A for B { ghost a_gives = { 2 }; ghost laws = { 3 }; } ⇒ \
 FOLD/// ghost a_gives = { 2 };⏎END⏎impl A for B {   }
 """

@@ -30,10 +30,10 @@ OTHERS = (
 # comments in tests: a commit that adds or removes one changes its number here. A path, the ending
 # of its files, and a text.
 COUNTS = [
-    ("tests/", ".rs", "#[test]\n", 207),
+    ("tests/", ".rs", "#[test]\n", 208),
     ("compare/tests/", ".rs", "#[test]\n", 35),
-    ("crates/", ".rt", "#[test]\n", 150),
-    ("tools/tests/", ".py", "\n    def test_", 23),
+    ("crates/", ".rt", "#[test]\n", 151),
+    ("tools/tests/", ".py", "\n    def test_", 24),
     ("tests/", ".rs", "#[ignore", 1),
     ("compare/tests/", ".rs", "#[ignore", 0),
     ("tests/", ".rs", "#[cfg", 11),
@@ -157,6 +157,19 @@ class Pages(unittest.TestCase):
             self.assertTrue(squeezed(block) in source, block)
         file, after = text("docs/CALLING.md").split("](../crates/callers/", 1)[1].split(")", 1)
         self.assertEqual(after.split("```")[1].split("\n", 1)[1], text(f"crates/callers/{file}"))
+
+    def test_aliases(self) -> None:
+        """The guide's table has the names of other libraries that the search of the documentation
+        finds, each beside what it finds."""
+        _, table = text("src/guide.md").split("| FreeType, fontTools | Here |\n|---|---|\n")
+        rows = [row.split(" | ", 1) for row in table.split("\n\n")[0].splitlines()]
+        cells = {name: here for there, here in rows for name in re.findall(r"`(\w+)`", there)}
+        form = re.compile(r'((?:#\[doc\(alias = "\w+"\)\]\s+)+)(?:#\[.*\]\s+)*pub [^({]*?(\w+)[<({]')
+        found = form.findall("".join(text(path) for path in of(GENERATED, ".rs")))
+        aliases = [(it, name) for list, name in found for it in re.findall('"(.*)"', list)]
+        self.assertEqual({alias for alias, _ in aliases}, cells.keys())
+        for alias, name in aliases:
+            self.assertRegex(cells[alias], rf"`\W*{name}\b", alias)
 
     def test_lines_of_definitions(self) -> None:
         """EVIDENCE has a row for each crate with definitions, but `callers` and `font_fixed2`."""

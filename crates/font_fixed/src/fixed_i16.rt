@@ -209,6 +209,8 @@ where
     Self: Format<16, F>,
 {
     /// Rounds to the nearest integer, half up; wraps: `MAX.round()` is `MIN`.
+    // #[doc(alias = "otRound")]
+    // #[doc(alias = "FT_PIX_ROUND")]
     #[inline(always)]
     pub const fn round(self) -> Self
         ensures nearest { IsNearestWhole 16 F (bits_of self.entry) (bits_of result) }
@@ -235,6 +237,8 @@ where
     }
 
     /// Returns the largest integer less than or equal to `self`.
+    // #[doc(alias = "FT_FloorFix")]
+    // #[doc(alias = "FT_PIX_FLOOR")]
     #[inline(always)]
     pub const fn floor(self) -> Self
         ensures { IsFloor F (bits_of self.entry) (bits_of result) }
@@ -243,6 +247,8 @@ where
     }
 
     /// Returns the smallest integer greater than or equal to `self`; wraps: `MAX.ceil()` is `MIN`.
+    // #[doc(alias = "FT_CeilFix")]
+    // #[doc(alias = "FT_PIX_CEIL")]
     #[inline(always)]
     pub const fn ceil(self) -> Self
         ensures { IsWrappedCeiling 16 F (bits_of self.entry) (bits_of result) }
@@ -275,10 +281,13 @@ where
     /// A decimal is an optional `-`, one or more digits, and optionally a point followed by one or
     /// more digits, of any length. `+1`, `.5`, `1.` and `1e3` are not decimals.
     ///
+    /// `strToFixed` of fontTools rounds half up instead, and parses by way of a float.
+    ///
     /// # Errors
     ///
     /// Returns `Syntax` if the text is not a decimal, and `OutOfRange` if its nearest value is less
     /// than `MIN` or greater than `MAX`.
+    // #[doc(alias = "strToFixed")]
     pub fn from_decimal(text: &str) -> Result<Self, DecimalFault>
         ensures { ParsesFixedPoint w16 F bits_of text.now result }
     {
@@ -301,11 +310,14 @@ where
 
     /// Returns the shortest decimal that parses back to the value, the text of `{}`, in a buffer.
     ///
+    /// `fixedToStr` of fontTools computes its text from a float instead.
+    ///
     /// ```
     /// use font_types::F2Dot14;
     /// let value: F2Dot14 = "0.1".parse().unwrap();
     /// assert_eq!(value.to_decimal().as_str(), "0.1");
     /// ```
+    // #[doc(alias = "fixedToStr")]
     pub fn to_decimal(self) -> Shortest
         ensures shortest { IsShortest (bits_of self.entry) F (shown result) }
         ensures text { shown result ≡ text_of self.entry }

@@ -207,6 +207,7 @@ impl Matrix<Fixed> {
     /// let moved = Point::new(F26Dot6::from_i32(6), F26Dot6::ZERO);
     /// assert_eq!(matrix.checked_image(pixels), Some(moved));
     /// ```
+    // #[doc(alias = "FT_Vector_Transform")]
     pub const fn checked_image<const F: u32>(
         self,
         point: Point<FixedI32<F>>,
@@ -231,6 +232,7 @@ impl Matrix<Fixed> {
 
     /// Returns `self * other`, or `None` if one of its entries overflows. Intermediate sums may
     /// overflow.
+    // #[doc(alias = "FT_Matrix_Multiply")]
     pub const fn checked_mul(self, other: Self) -> Option<Self>
         ensures variant { IsSome result ↔ FitsEach (FitsBits 32)
             (rounded_matrix_product (matrix_bits self) (matrix_bits other)) }

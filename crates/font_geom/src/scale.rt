@@ -9,12 +9,11 @@ ghost use Rattle.font_geom.specs.Scale.{scale_bits, factor_of};
 use crate::Point;
 use font_fixed::{F26Dot6, Fixed, product};
 
-/// A scale: converts font units to pixels in 26.6, as FreeType does.
+/// A scale: converts font units to pixels in 26.6.
 ///
-/// The factor is a 16.16 number, the `x_scale` or `y_scale` of FreeType's `FT_Size_Metrics`. A
-/// coordinate is the product of its units and the factor, rounded half away from zero: the result
-/// of `FT_MulFix`. With the factor of `new`, it is at most `1 / 2 + |units| / 2^17` of `1 / 64`
-/// pixel from the exact one.
+/// The factor is a 16.16 number of `1 / 64` pixels for a font unit. A coordinate is the product of
+/// its units and the factor, rounded half away from zero. With the factor of `new`, it is at most
+/// `1 / 2 + |units| / 2^17` of `1 / 64` pixel from the exact `units * size / units_per_em`.
 ///
 /// ```
 /// use font_types::{F26Dot6, FWord, Point, Scale};
@@ -24,13 +23,14 @@ use font_fixed::{F26Dot6, Fixed, product};
 /// let point = scale.apply_point(Point::new(700, -250));
 /// assert_eq!(point.map(F26Dot6::to_bits), Point::new(538, -192));
 /// ```
+// #[doc(alias = "ppem")]
 #[derive(Clone, Copy, PartialEq, Eq, Hash, Debug)]
 pub struct Scale(Fixed);
 
 impl Scale {
     /// Creates the scale of a size, in pixels per em, or returns `None` if `units_per_em` is zero or
-    /// the factor overflows. The factor is that of `FT_DivFix`: the quotient of the raw values,
-    /// rounded half away from zero.
+    /// the factor overflows. The factor is the quotient of the raw values in 16.16, rounded half
+    /// away from zero.
     pub const fn new(size: F26Dot6, units_per_em: u16) -> Option<Self>
         ensures variant { IsSome result ↔ ((units_per_em ≢ 0)
             × FitsBits 32 (factor_of (f26dot6_bits size) units_per_em)) }
@@ -43,7 +43,7 @@ impl Scale {
         }
     }
 
-    /// Creates a scale from its factor, for example from an `x_scale` of FreeType.
+    /// Creates a scale from its factor.
     pub const fn from_factor(factor: Fixed) -> Self
         ensures { scale_bits result ≡ fixed_bits factor }
     {
@@ -51,13 +51,17 @@ impl Scale {
     }
 
     /// Returns the factor.
+    // #[doc(alias = "x_scale")]
+    // #[doc(alias = "y_scale")]
     pub const fn factor(self) -> Fixed
         ensures { fixed_bits result ≡ scale_bits self }
     {
         self.0
     }
 
-    /// Scales a number of font units. No result overflows.
+    /// Scales a number of font units, such as `word.to_i16()` of an [`FWord`](crate::FWord). No
+    /// result overflows.
+    // #[doc(alias = "FT_MulFix")]
     #[inline(always)]
     #[tactic(auto, using(crate::proofs::Scaled::word_unwrapped))]
     pub const fn apply(self, units: i16) -> F26Dot6
@@ -67,7 +71,7 @@ impl Scale {
     }
 
     /// Scales a number of font units, or returns `None` on overflow. From -65535 to 65535 none
-    /// overflows.
+    /// overflows, so that `checked_apply(word.to_u16().into())` of a `UfWord` is `Some`.
     #[tactic(auto, using(crate::proofs::Scaled::units_fit))]
     pub const fn checked_apply(self, units: i32) -> Option<F26Dot6>
         ensures variant { IsSome result ↔ FitsBits 32 (rounded_product units (scale_bits self)) }

@@ -323,6 +323,8 @@ where
     /// ```
     /// [Notation](crate::definitions): [`IsNearestWhole`], [`bits_of`]
     /// </details>
+    #[doc(alias = "otRound")]
+    #[doc(alias = "FT_PIX_ROUND")]
     #[must_use]
     #[inline(always)]
     pub const fn round(self) -> Self {
@@ -357,6 +359,8 @@ where
     /// ```
     /// [Notation](crate::definitions): [`IsFloor`], [`bits_of`]
     /// </details>
+    #[doc(alias = "FT_FloorFix")]
+    #[doc(alias = "FT_PIX_FLOOR")]
     #[must_use]
     #[inline(always)]
     pub const fn floor(self) -> Self {
@@ -372,6 +376,8 @@ where
     /// ```
     /// [Notation](crate::definitions): [`IsWrappedCeiling`], [`bits_of`]
     /// </details>
+    #[doc(alias = "FT_CeilFix")]
+    #[doc(alias = "FT_PIX_CEIL")]
     #[must_use]
     #[inline(always)]
     pub const fn ceil(self) -> Self {
@@ -417,6 +423,8 @@ where
     /// A decimal is an optional `-`, one or more digits, and optionally a point followed by one or
     /// more digits, of any length. `+1`, `.5`, `1.` and `1e3` are not decimals.
     ///
+    /// `strToFixed` of fontTools rounds half up instead, and parses by way of a float.
+    ///
     /// # Errors
     ///
     /// Returns `Syntax` if the text is not a decimal, and `OutOfRange` if its nearest value is less
@@ -429,6 +437,7 @@ where
     /// ```
     /// [Notation](crate::definitions): [`ParsesFixedPoint`], [`bits_of`]
     /// </details>
+    #[doc(alias = "strToFixed")]
     #[inline]
     pub const fn from_decimal(text: &str) -> Result<Self, DecimalFault> {
         Self::from_decimal_bytes(text.as_bytes())
@@ -457,6 +466,8 @@ where
 
     /// Returns the shortest decimal that parses back to the value, the text of `{}`, in a buffer.
     ///
+    /// `fixedToStr` of fontTools computes its text from a float instead.
+    ///
     /// ```
     /// use font_types_proved::F2Dot14;
     /// let value: F2Dot14 = "0.1".parse().unwrap();
@@ -471,6 +482,7 @@ where
     /// ```
     /// [Notation](crate::definitions): [`IsShortest`], [`bits_of`], [`shown`], [`text_of`]
     /// </details>
+    #[doc(alias = "fixedToStr")]
     #[must_use]
     #[inline]
     pub fn to_decimal(self) -> Shortest {

@@ -282,6 +282,8 @@ where
     /// ```
     /// [Notation](crate::definitions): [`IsNearestWhole`], [`bits_of`]
     /// </details>
+    #[doc(alias = "otRound")]
+    #[doc(alias = "FT_PIX_ROUND")]
     #[must_use]
     #[inline(always)]
     pub const fn round(self) -> Self {
@@ -316,6 +318,8 @@ where
     /// ```
     /// [Notation](crate::definitions): [`IsFloor`], [`bits_of`]
     /// </details>
+    #[doc(alias = "FT_FloorFix")]
+    #[doc(alias = "FT_PIX_FLOOR")]
     #[must_use]
     #[inline(always)]
     pub const fn floor(self) -> Self {
@@ -331,6 +335,8 @@ where
     /// ```
     /// [Notation](crate::definitions): [`IsWrappedCeiling`], [`bits_of`]
     /// </details>
+    #[doc(alias = "FT_CeilFix")]
+    #[doc(alias = "FT_PIX_CEIL")]
     #[must_use]
     #[inline(always)]
     pub const fn ceil(self) -> Self {
@@ -376,6 +382,8 @@ where
     /// A decimal is an optional `-`, one or more digits, and optionally a point followed by one or
     /// more digits, of any length. `+1`, `.5`, `1.` and `1e3` are not decimals.
     ///
+    /// `strToFixed` of fontTools rounds half up instead, and parses by way of a float.
+    ///
     /// # Errors
     ///
     /// Returns `Syntax` if the text is not a decimal, and `OutOfRange` if its nearest value is less
@@ -388,6 +396,7 @@ where
     /// ```
     /// [Notation](crate::definitions): [`ParsesFixedPoint`], [`bits_of`]
     /// </details>
+    #[doc(alias = "strToFixed")]
     #[inline]
     pub const fn from_decimal(text: &str) -> Result<Self, DecimalFault> {
         Self::from_decimal_bytes(text.as_bytes())
@@ -416,6 +425,8 @@ where
 
     /// Returns the shortest decimal that parses back to the value, the text of `{}`, in a buffer.
     ///
+    /// `fixedToStr` of fontTools computes its text from a float instead.
+    ///
     /// ```
     /// use font_types_proved::F48Dot16;
     /// let value: F48Dot16 = "0.1".parse().unwrap();
@@ -430,6 +441,7 @@ where
     /// ```
     /// [Notation](crate::definitions): [`IsShortest`], [`bits_of`], [`shown`], [`text_of`]
     /// </details>
+    #[doc(alias = "fixedToStr")]
     #[must_use]
     #[inline]
     pub fn to_decimal(self) -> Shortest {

@@ -270,6 +270,7 @@ impl Matrix<Fixed> {
     /// ```
     /// [Notation](crate::definitions): [`FitsPoint`], [`rounded_image`], [`matrix_bits`], [`bits_of_point`]
     /// </details>
+    #[doc(alias = "FT_Vector_Transform")]
     #[must_use]
     #[inline]
     pub const fn checked_image<const F: u32>(
@@ -298,6 +299,7 @@ impl Matrix<Fixed> {
     /// ```
     /// [Notation](crate::definitions): [`FitsEach`], [`FitsBits`], [`rounded_matrix_product`], [`matrix_bits`]
     /// </details>
+    #[doc(alias = "FT_Matrix_Multiply")]
     #[must_use]
     #[inline]
     pub const fn checked_mul(self, other: Self) -> Option<Self> {

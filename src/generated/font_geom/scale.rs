@@ -20,12 +20,11 @@ use crate::definitions::font_geom::Scale::scale_bits;
 use crate::font_fixed::{F26Dot6, Fixed, product};
 use crate::font_geom::Point;
 
-/// A scale: converts font units to pixels in 26.6, as FreeType does.
+/// A scale: converts font units to pixels in 26.6.
 ///
-/// The factor is a 16.16 number, the `x_scale` or `y_scale` of FreeType's `FT_Size_Metrics`. A
-/// coordinate is the product of its units and the factor, rounded half away from zero: the result
-/// of `FT_MulFix`. With the factor of `new`, it is at most `1 / 2 + |units| / 2^17` of `1 / 64`
-/// pixel from the exact one.
+/// The factor is a 16.16 number of `1 / 64` pixels for a font unit. A coordinate is the product of
+/// its units and the factor, rounded half away from zero. With the factor of `new`, it is at most
+/// `1 / 2 + |units| / 2^17` of `1 / 64` pixel from the exact `units * size / units_per_em`.
 ///
 /// ```
 /// use font_types_proved::{F26Dot6, FWord, Point, Scale};
@@ -37,13 +36,14 @@ use crate::font_geom::Point;
 /// ```
 ///
 /// The source and its contracts: `crates/font_geom/src/scale.rt`.
+#[doc(alias = "ppem")]
 #[derive(Clone, Copy, PartialEq, Eq, Hash, Debug)]
 pub struct Scale(Fixed);
 
 impl Scale {
     /// Creates the scale of a size, in pixels per em, or returns `None` if `units_per_em` is zero or
-    /// the factor overflows. The factor is that of `FT_DivFix`: the quotient of the raw values,
-    /// rounded half away from zero.
+    /// the factor overflows. The factor is the quotient of the raw values in 16.16, rounded half
+    /// away from zero.
     ///
     /// <details><summary>Contract</summary>
     ///
@@ -64,7 +64,7 @@ impl Scale {
         }
     }
 
-    /// Creates a scale from its factor, for example from an `x_scale` of FreeType.
+    /// Creates a scale from its factor.
     ///
     /// <details><summary>Contract</summary>
     ///
@@ -88,13 +88,16 @@ impl Scale {
     /// ```
     /// [Notation](crate::definitions): [`fixed_bits`], [`scale_bits`]
     /// </details>
+    #[doc(alias = "x_scale")]
+    #[doc(alias = "y_scale")]
     #[must_use]
     #[inline]
     pub const fn factor(self) -> Fixed {
         self.0
     }
 
-    /// Scales a number of font units. No result overflows.
+    /// Scales a number of font units, such as `word.to_i16()` of an [`FWord`](crate::FWord). No
+    /// result overflows.
     ///
     /// <details><summary>Contract</summary>
     ///
@@ -103,6 +106,7 @@ impl Scale {
     /// ```
     /// [Notation](crate::definitions): [`f26dot6_bits`], [`rounded_product`], [`scale_bits`]
     /// </details>
+    #[doc(alias = "FT_MulFix")]
     #[must_use]
     #[inline(always)]
     pub const fn apply(self, units: i16) -> F26Dot6 {
@@ -110,7 +114,7 @@ impl Scale {
     }
 
     /// Scales a number of font units, or returns `None` on overflow. From -65535 to 65535 none
-    /// overflows.
+    /// overflows, so that `checked_apply(word.to_u16().into())` of a `UfWord` is `Some`.
     ///
     /// <details><summary>Contract</summary>
     ///

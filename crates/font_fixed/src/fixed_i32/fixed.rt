@@ -69,6 +69,7 @@ impl Fixed {
     ///
     /// If `c` is zero, the result is [`Fixed::MAX`], negated if exactly one of `self` and `a` is
     /// negative.
+    // #[doc(alias = "FT_MulDiv")]
     #[inline(always)]
     pub const fn mul_div(&self, a: Self, c: Self) -> Self
         ensures { IsMulDiv 32 (bits_of self.now) (bits_of a) (bits_of c)
@@ -78,6 +79,7 @@ impl Fixed {
     }
 
     /// Returns `self * other`, rounded half away from zero, or `None` on overflow.
+    // #[doc(alias = "FT_MulFix")]
     pub const fn checked_mul(self, other: Self) -> Option<Self>
         ensures variant { IsSome result
             ↔ FitsBits 32 (near (bits_of self *ℤ bits_of other) (2 ^ 16)) }
@@ -92,6 +94,7 @@ impl Fixed {
 
     /// Returns `self / other`, rounded half away from zero, or `None` on overflow or division by
     /// zero.
+    // #[doc(alias = "FT_DivFix")]
     pub const fn checked_div(self, other: Self) -> Option<Self>
         ensures variant { IsSome result ↔ ((bits_of other ≢ pos 0)
             × FitsBits 32 (rounded_mul_div (bits_of self) (pos (2 ^ 16)) (bits_of other))) }

@@ -97,6 +97,7 @@ impl Fixed {
     /// ```
     /// [Notation](crate::definitions): [`IsMulDiv`], [`bits_of`]
     /// </details>
+    #[doc(alias = "FT_MulDiv")]
     #[must_use]
     #[inline(always)]
     pub const fn mul_div(&self, a: Self, c: Self) -> Self {
@@ -115,6 +116,7 @@ impl Fixed {
     /// ```
     /// [Notation](crate::definitions): [`FitsBits`], [`near`], [`bits_of`]
     /// </details>
+    #[doc(alias = "FT_MulFix")]
     #[must_use]
     #[inline]
     pub const fn checked_mul(self, other: Self) -> Option<Self> {
@@ -137,6 +139,7 @@ impl Fixed {
     /// ```
     /// [Notation](crate::definitions): [`bits_of`], [`FitsBits`], [`rounded_mul_div`]
     /// </details>
+    #[doc(alias = "FT_DivFix")]
     #[must_use]
     #[inline]
     pub const fn checked_div(self, other: Self) -> Option<Self> {

@@ -33,3 +33,17 @@ fn order_of_ids() {
     let (wide, narrow) = (GlyphId::new(0x1_0000), GlyphId16::new(0xFFFF));
     assert!(rt; wide.cmp_gid16(&narrow) == Ordering::Greater);
 }
+
+#[test]
+fn glyph_ids_that_saturate() {
+    let rt = crate::std_for_tests::Host;
+    let rows = [
+        (0xFF_FFFE, 0xFF_FFFE),
+        (0xFF_FFFF, 0xFF_FFFF),
+        (0x100_0000, 0xFF_FFFF),
+        (0xFFFF_FFFF, 0xFF_FFFF),
+    ];
+    for &(number, id) in &rows {
+        assert!(rt; GlyphId24::new(number).to_u32() == id, "{number}");
+    }
+}

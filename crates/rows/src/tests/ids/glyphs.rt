@@ -28,3 +28,16 @@ fn order_of_ids(rt: HostRuntime) {
     let (wide, narrow) = (GlyphId::new(0x1_0000), GlyphId16::new(0xFFFF));
     assert!(rt; wide.cmp_gid16(&narrow) == Ordering::Greater);
 }
+
+#[test]
+fn glyph_ids_that_saturate(rt: HostRuntime) {
+    let rows = [
+        (0xFF_FFFE, 0xFF_FFFE),
+        (0xFF_FFFF, 0xFF_FFFF),
+        (0x100_0000, 0xFF_FFFF),
+        (0xFFFF_FFFF, 0xFF_FFFF),
+    ];
+    for &(number, id) in &rows {
+        assert!(rt; GlyphId24::new(number).to_u32() == id, "{number}");
+    }
+}
