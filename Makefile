@@ -13,7 +13,7 @@ IS_RUSTC := $(findstring rustc $(RUSTC).,$(shell rustc --version 2>&1))
 MIR := python3 tools/mir
 FETCHED := $(if $(FONT_TYPES_DIR),--offline --config 'patch.crates-io.font-types.path="$(FONT_TYPES_DIR)"')
 
-STEPS := rust pages lints workspaces fontations tools smt smt-checked mir c compare
+STEPS := rust pages lints workspaces fontations tools smt smt-checked mir c compare compared
 .PHONY: check $(STEPS)
 
 check:
@@ -76,8 +76,17 @@ c:
 	$(call with,cargo make cc c++ pkg-config nm readelf ldd)
 	c/check | tee -a /dev/stderr | grep -x 'the library for C: all calls are right' >/dev/null
 
+# Fetches font-types, or ends a step.
+fetched = cargo fetch --quiet --manifest-path compare/Cargo.toml $(FETCHED) ||
+fetched += { echo "left out: $@, which needs font-types, which cargo cannot fetch"; exit 0; }
+
 compare:
 	$(call with,cargo)
-	cargo fetch --quiet --manifest-path compare/Cargo.toml $(FETCHED) ||
-		{ echo "left out: compare, which needs font-types, which cargo cannot fetch"; exit 0; }
+	$(fetched)
 	cargo test --quiet --release --manifest-path compare/Cargo.toml $(FETCHED)
+
+# The tests that `compare` runs call each function of font-types.
+compared:
+	$(call with,cargo python3 objdump c++filt $(if $(IS_RUSTC),,rustc-$(RUSTC)))
+	$(fetched)
+	compare/compared $(FETCHED)

@@ -6,12 +6,18 @@ use font_types_proved::{DeltaSum, FWord, Fixed, vary};
 fn products_of(a: i32, b: i32, c: i32) {
     assert_same!((a, b, c), |k| {
         let [x, y, z] = [a, b, c].map(k::Fixed::from_bits);
-        [x * y, x / y, x.mul_div(y, z)].map(k::Fixed::to_bits)
+        let (mut product, mut quotient) = (x, x);
+        product *= y;
+        quotient /= y;
+        [x * y, product, x / y, quotient, x.mul_div(y, z)].map(k::Fixed::to_bits)
     });
     assert_same!((a, b), |k| k::Fixed::from_bits(a).mul_i32(b).to_bits());
     assert_same!((a, b), |k| {
         let [x, y] = [a, b].map(k::F26Dot6::from_bits);
-        [x * y, x / y].map(k::F26Dot6::to_bits)
+        let (mut product, mut quotient) = (x, x);
+        product *= y;
+        quotient /= y;
+        [x * y, product, x / y, quotient].map(k::F26Dot6::to_bits)
     });
 }
 
@@ -34,7 +40,7 @@ fn conversions_of(bits: i32) {
     assert_same!(bits, |k| k::Fixed::from_bits(bits).to_f26dot6().to_bits());
     assert_same!(bits, |k| k::Fixed::from_bits(bits).to_f2dot14().to_bits());
     assert_same!(bits, |k| k::Fixed::from_bits(bits).to_f48dot16().to_bits());
-    assert_same!(bits, |k| k::Fixed::from_i32(bits).to_bits());
+    assert_same!(bits, |k| [k::Fixed::from_i32(bits), bits.into()].map(k::Fixed::to_bits));
     assert_same!(bits, |k| k::F26Dot6::from_bits(bits).to_i32());
     assert_same!(bits, |k| k::F26Dot6::from_i32(bits).to_bits());
     let half = bits as i16;

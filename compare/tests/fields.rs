@@ -14,6 +14,7 @@ macro_rules! each_scalar {
                     use k::*;
                     const LEN: usize = <$Type as k::FixedSize>::RAW_BYTE_LEN;
                     let [first, second] = pair.map(|bytes| *bytes.first_chunk::<LEN>().unwrap());
+                    let of_raw = k::Scalar::to_raw(<$Type as k::Scalar>::from_raw(first));
                     let read = <$Type as k::Scalar>::read(&first).map(k::Scalar::to_raw);
                     let is_short = <$Type as k::Scalar>::read(&first[1..]).is_none();
                     let [x, y] = [first, second].map(k::BigEndian::<$Type>::new);
@@ -22,7 +23,8 @@ macro_rules! each_scalar {
                     let of_slice = k::BigEndian::<$Type>::from_slice(&first).unwrap();
                     let fields = [set, x.get().into(), of_slice];
                     let bytes = fields.map(|field| field.be_bytes().to_vec());
-                    (LEN, read, is_short, x == y, x == y.get(), bytes)
+                    let order = (x == y, x == y.get(), x.cmp(&y), x.partial_cmp(&y));
+                    (LEN, of_raw, read, is_short, order, bytes, format!("{x:?}"))
                 });)*
             }
         }

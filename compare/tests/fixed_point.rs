@@ -45,10 +45,15 @@ macro_rules! each_type {
             fn sums_of(a: $bits, b: $bits) {
                 assert_same!((a, b), |k| {
                     let [x, y] = [a, b].map(k::$Type::from_bits);
+                    let (mut sum, mut difference) = (x, x);
+                    sum += y;
+                    difference -= y;
+                    let assigned = [sum, difference].map(k::$Type::to_bits);
                     let wrapping = [x + y, x - y, x.wrapping_add(y), x.wrapping_sub(y)];
                     let saturating = [x.saturating_add(y), x.saturating_sub(y)];
                     let checked = x.checked_add(y).map(k::$Type::to_bits);
-                    (wrapping.map(k::$Type::to_bits), saturating.map(k::$Type::to_bits), checked)
+                    let saturating = saturating.map(k::$Type::to_bits);
+                    (wrapping.map(k::$Type::to_bits), assigned, saturating, checked)
                 });
             }
 

@@ -12,9 +12,12 @@ fn matrices() {
             let x = bits.map(k::Fixed::from_bits);
             let [a, b] = [0, 6].map(|at| k::Matrix::from_elements(from_fn(|n| x[at + n])));
             let p = k::Point::new(x[12], x[13]);
-            let images = [a * p, (a * b) * p, a * (b * p)];
-            let images = images.map(|p| [p.x, p.y].map(k::Fixed::to_bits));
-            ((a * b).elements().map(k::Fixed::to_bits), images)
+            let mut product = a;
+            product *= b;
+            let (x, y) = a.transform(p.x, p.y);
+            let images = [a * p, k::Point::new(x, y), (a * b) * p, a * (b * p)];
+            let products = [a * b, product].map(|it| it.map(k::Fixed::to_bits).elements());
+            (products, images.map(|p| p.map(k::Fixed::to_bits)).map(|p| [p.x, p.y]))
         });
     }
 }
@@ -27,8 +30,18 @@ fn points() {
         assert_same!(bits, |k| {
             let [a, b, c, d, n] = bits.map(k::Fixed::from_bits);
             let (p, q) = (k::Point::new(a, b), k::Point::new(c, d));
+            let mut assigned = [p; 6];
+            assigned[0] += q;
+            assigned[1] -= q;
+            assigned[2] *= q;
+            assigned[3] /= q;
+            assigned[4] *= n;
+            assigned[5] /= n;
+            let [sum, difference, product, quotient, more, less] = assigned;
+            let assigned = [sum, difference, product, quotient, more, less, k::Point::broadcast(n)];
+            let assigned = assigned.map(|p| [p.x, p.y].map(k::Fixed::to_bits));
             let points = [p + q, p - q, p * q, p / q, -p, p * n, p / n];
-            points.map(|p| [p.x, p.y].map(k::Fixed::to_bits))
+            (points.map(|p| [p.x, p.y].map(k::Fixed::to_bits)), assigned)
         });
     }
 }

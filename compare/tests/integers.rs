@@ -19,10 +19,13 @@ fn assert_same_24_bits(n: u32) {
     assert_same!(n, |k| k::Int24::checked_new(i).map(i32::from));
     assert_same!(n, |k| {
         let new = k::GlyphId24::new(n);
+        let wide = k::GlyphId::from(new);
+        let wide = (wide.to_u32(), u32::from(wide), usize::from(new), k::GlyphId::from(n).to_u32());
+        let read = k::GlyphId24::from_be_bytes([b, c, d]);
         let checked = k::GlyphId24::checked_new(n).map(|id| id.to_u32());
         let narrowed = k::GlyphId24::try_from(k::GlyphId::new(n)).ok();
         let narrowed = narrowed.map(u32::from);
-        (new.to_u32(), new.to_be_bytes(), checked, narrowed)
+        (new.to_u32(), new.to_be_bytes(), checked, narrowed, wide, read.to_string())
     });
     assert_same!(n, |k| {
         let offset = k::Offset24::new(k::Uint24::new(n));
@@ -51,21 +54,26 @@ fn ids_and_units_of_16_bits() {
         assert_same!(n, |k| {
             let (x, y) = (k::FWord::new(i), k::UfWord::new(n));
             let numbers = (x.to_i16(), i16::from(x), y.to_u16(), u16::from(y));
+            let same = (x == k::FWord::from(i), y == k::UfWord::from(n));
             let fixed = [x.to_fixed(), y.to_fixed()].map(k::Fixed::to_bits);
             let bytes = [x.to_be_bytes(), y.to_be_bytes()];
-            (numbers, fixed, bytes, format!("{x} {x:+} {y:>7}"))
+            (numbers, same, fixed, bytes, format!("{x} {x:+} {y:>7}"))
         });
         assert_same!(n, |k| {
             let id = k::GlyphId16::new(n);
-            let wide = (id.to_u32(), usize::from(id), k::GlyphId::from(id) == id);
-            (id.to_u16(), wide, id.to_be_bytes(), id.to_string())
+            let wide =
+                [k::GlyphId::from(id), k::GlyphId::from(n), k::GlyphId::new(u32::from(n) + 1)];
+            let same = wide.map(|wide| (wide == id, id == wide));
+            let numbers = (id.to_u32(), usize::from(id), k::GlyphId16::from(n).to_u16());
+            (id.to_u16(), numbers, same, id.to_be_bytes(), id.to_string())
         });
         assert_same!(n, |k| {
             let id = k::NameId::new(n);
             let sums = [0, 1, n, 32767 - n % 32768, u16::MAX];
             let sums = sums.map(|more| id.checked_add(more).map(k::NameId::to_u16));
             let place = k::NameId::predefined().position(|other| other == id);
-            let number = (id.to_u16(), id.is_reserved(), id.to_be_bytes());
+            let is_same = id == k::NameId::from(n);
+            let number = (id.to_u16(), is_same, id.is_reserved(), id.to_be_bytes());
             (number, sums, place, format!("{id} {id:?}"))
         });
         assert_same!(n, |k| {
@@ -110,13 +118,17 @@ fn versions_ids_and_dates() {
             let (wide, narrow) = (k::GlyphId::new(m), k::GlyphId16::new(d));
             let order = (wide.partial_cmp(&narrow), narrow.partial_cmp(&wide));
             let narrowed = k::GlyphId16::try_from(wide).map(u32::from);
-            let narrowed = narrowed.map_err(|error| error.to_string());
+            let narrowed = narrowed.map_err(|error| format!("{error} {error:?}"));
             (narrowed, order, wide == narrow, wide.to_string())
         });
         assert_same!((m, n), |k| {
             let [x, y] = [m, n].map(k::Offset32::new);
-            let null = <k::Nullable<k::Offset32> as k::Scalar>::from_raw([0, 0, 0, (a % 2) as u8]);
-            let nullable = (null.is_null(), null == 1);
+            let raw = [0, 0, (b % 2) as u8, (a % 2) as u8];
+            let null = <k::Nullable<k::Offset32> as k::Scalar>::from_raw(raw);
+            let read = <k::Nullable<k::Offset32> as k::Scalar>::read(&raw);
+            let default = k::Nullable::<k::Offset32>::default();
+            let copies = (read == Some(null), null == default, *null.offset() == x);
+            let nullable = (null.is_null(), null == 1, copies, k::Scalar::to_raw(null));
             (x.to_u32(), x.is_null(), x == n, x.cmp(&y), nullable)
         });
         assert_same!(seconds, |k| {

@@ -5,7 +5,9 @@ use compare::{Random, assert_same, sampled};
 fn assert_same_check(bytes: &[u8]) {
     assert_same!(bytes, |k| {
         let tag = k::Tag::new_checked(bytes).map(k::Tag::to_be_bytes);
-        tag.map_err(|error| format!("{error:?}"))
+        tag.map_err(|error| {
+            format!("{error} {error:?} {}", error == k::InvalidTag::InvalidLength(0))
+        })
     });
     if let Ok(text) = str::from_utf8(bytes) {
         assert_same!(text, |k| {
@@ -60,7 +62,12 @@ fn text_order_and_numbers() {
         assert_same!((a, b), |k| {
             let [x, y] = [a, b].map(|n| k::Tag::new(&n.to_be_bytes()));
             let bytes = k::Tag::from_u32(a).into_bytes();
-            (format!("{x} {x:?}"), x.cmp(&y), bytes)
+            let read = k::Tag::from_be_bytes(bytes);
+            let (slice, text) = (&bytes[..], str::from_utf8(&bytes).unwrap_or("head"));
+            let same = (x == y, y == slice, x == *text, x == text, y == bytes, read == x);
+            let lent: (&[u8], &[u8; 4]) = (x.as_ref(), std::borrow::Borrow::borrow(&x));
+            let lent = (lent.0.to_vec(), *lent.1);
+            (format!("{x} {x:?}"), x.cmp(&y), bytes, same, lent)
         });
     }
 }

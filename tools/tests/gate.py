@@ -13,11 +13,12 @@ VERSION = "tools/mir/__main__.py"
 MEMORY = "crates/rows/src/tests/json/memory.rt"
 STORED = "crates/fontval/memory/stdin crates/fontval/memory/stdout"
 BUILT = (
-    "c/check tools/verdicts tools/goals tests/workspaces compare/fontations/copy "
+    "c/check tools/verdicts tools/goals tests/workspaces compare/compared compare/fontations/copy "
     "crates/rows/out/rows_tests crates/fontval/out/fontval"
 )
 TOOLS = re.findall(r"\nfor tool in (.*?);", (ROOT / ".ci/run").read_text())[0].split()
 TOOLS_FOR_C = "c++ pkg-config nm readelf ldd".split()
+TOOLS_FOR_CALLS = "c++filt objdump".split()
 # What the gate and its stand-ins call of the system.
 SYSTEM = (
     "bash sh env basename cat cmp dirname git grep make mktemp nproc paste rm sed sort tail tee wc"
@@ -30,11 +31,13 @@ FAULTS = (
 FETCH = "cargo fetch --quiet --manifest-path compare/Cargo.toml"
 LEFT_OUT = {"crate": "nothing", "--anew": "nothing", "freetype": "FreeType"}
 OF_RUSTC = "{0}, which needs rustc-1.95"
-LEFT_OUT["rustc"] = "; ".join(map(OF_RUSTC.format, ("mir", "smt", "smt-checked")))
+LEFT_OUT["rustc"] = "; ".join(map(OF_RUSTC.format, ("compared", "mir", "smt", "smt-checked")))
 LEFT_OUT[
     "python3 -c import z3"
 ] = "smt, which needs python3-z3; smt-checked, which needs python3-z3"
-LEFT_OUT[FETCH] = "compare, which needs font-types, which cargo cannot fetch"
+LEFT_OUT[FETCH] = "; ".join(
+    f"{step}, which needs font-types, which cargo cannot fetch" for step in ("compare", "compared")
+)
 
 # It logs its call, and fails if `$FAIL` is its call. What `rt ci` builds asks for one allocation.
 STAND_IN = r"""#!/bin/sh
@@ -79,7 +82,9 @@ class Gate(unittest.TestCase):
         for path in f".ci/run Makefile {STORED} {MEMORY} {VERSION}".split():
             text = (ROOT / path).read_text()
             self.put(path, text.replace("/usr/bin/python3", "bin/python3"))
-        for path in BUILT.split() + [f"bin/{name}" for name in TOOLS + TOOLS_FOR_C]:
+        for path in BUILT.split() + [
+            f"bin/{name}" for name in TOOLS + TOOLS_FOR_C + TOOLS_FOR_CALLS
+        ]:
             self.put(path, STAND_IN)
         for name in SYSTEM.split():
             (self.folder / "bin" / name).symlink_to(shutil.which(name) or name)
@@ -113,7 +118,7 @@ class Gate(unittest.TestCase):
         self.assertFalse((self.folder / "crates/font_types/out/rlib/old").exists())
         steps = {call for call in calls if not call.startswith(("font", "rows", "rustc --v"))}
         # A step that is lost or added changes this number.
-        self.assertEqual(len(steps), 28)
+        self.assertEqual(len(steps), 29)
         # A step that checks nothing would not fail.
         needed = {"cargo clippy": " -D warnings", "cargo fmt": " --check "}
         needed["python3 -B"] = " -p *.py"
@@ -129,9 +134,10 @@ class Gate(unittest.TestCase):
             self.assertIn(call, (self.folder / "log").read_text().splitlines())
 
     def test_missing_tools(self) -> None:
-        for tool in TOOLS + TOOLS_FOR_C:
+        for tool in TOOLS + TOOLS_FOR_C + TOOLS_FOR_CALLS:
             path = self.folder / "bin" / tool
-            left_out = f"c, which needs {tool}" if tool in TOOLS_FOR_C else None
+            step = "c" if tool in TOOLS_FOR_C else "compared"
+            left_out = None if tool in TOOLS else f"{step}, which needs {tool}"
             path.rename(self.folder / "kept")
             self.assertEqual(self.run_gate(), left_out, tool)
             (self.folder / "kept").rename(path)

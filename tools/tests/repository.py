@@ -31,7 +31,7 @@ OTHERS = (
 # of its files, and a text.
 COUNTS = [
     ("tests/", ".rs", "#[test]\n", 208),
-    ("compare/tests/", ".rs", "#[test]\n", 35),
+    ("compare/tests/", ".rs", "#[test]\n", 37),
     ("crates/", ".rt", "#[test]\n", 151),
     ("tools/tests/", ".py", "\n    def test_", 24),
     ("tests/", ".rs", "#[ignore", 1),
