@@ -5,7 +5,7 @@ use crate::{DeltaSum, Fixed, Matrix, MatrixElement, Predefined, Scalar, ScalarAr
 use core::iter::FusedIterator;
 
 impl<T: MatrixElement> Matrix<T> {
-    /// The matrix that moves no point, [`Matrix::identity`].
+    /// The identity matrix, as [`Matrix::identity`] returns it.
     pub const IDENTITY: Self = Self::identity();
 }
 

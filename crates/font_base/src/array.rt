@@ -300,7 +300,7 @@ impl<'a, T: Scalar> ScalarArray<'a, T> {
     /// Searches an array by a comparison of each element with the wanted place: elements that
     /// compare as `Less` come first, then those that compare as `Equal`, then those that compare as
     /// `Greater`. Returns the index of an element that compares as `Equal`. If there are several,
-    /// any of them may be returned. For a closure that changes what it captures, search
+    /// any of them may be returned. If the closure changes what it captures, search
     /// [`as_raw`](Self::as_raw).
     ///
     /// ```

@@ -20,7 +20,7 @@ use crate::facts::each_is_byte;
 /// Rattle proves these of every implementation; rustc checks none of them.
 ///
 /// - `from_slice` accepts exactly the slices of `LEN` bytes.
-/// - `as_slice` returns `LEN` bytes, those that `from_slice` was given.
+/// - `as_slice` returns the `LEN` bytes that `from_slice` was given.
 /// - Arrays with equal bytes are the same value.
 pub trait BeByteArray: Copy {
     /// The number of bytes.

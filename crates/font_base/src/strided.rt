@@ -9,8 +9,9 @@ use std::slice::ChunksExact;
 /// Returns the bytes of `count` records of `size` bytes each, one after another from `offset`, or
 /// `None` if `size` is 0 or `offset + count * size` is greater than the number of bytes.
 ///
-/// So tables store records that later versions make longer: the axes and the instances of `fvar`,
-/// the axes of `STAT`, the values of `MVAR`. Read the fields of each record from its own bytes.
+/// Tables store records this way so that later versions can lengthen them: the axes and the
+/// instances of `fvar`, the axes of `STAT`, the values of `MVAR`. Read the fields of each record from
+/// its own bytes.
 ///
 /// ```
 /// use font_types::{Scalar, Tag, records};

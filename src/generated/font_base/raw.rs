@@ -26,7 +26,7 @@ use crate::definitions::font_base::Wrap::fits_bits;
 /// Rattle proves these of every implementation; rustc checks none of them.
 ///
 /// - `from_slice` accepts exactly the slices of `LEN` bytes.
-/// - `as_slice` returns `LEN` bytes, those that `from_slice` was given.
+/// - `as_slice` returns the `LEN` bytes that `from_slice` was given.
 /// - Arrays with equal bytes are the same value.
 ///
 /// The source and its contracts: `crates/font_base/src/raw.rt`.

@@ -427,7 +427,8 @@ where
         }
     }
 
-    /// Returns the shortest decimal that parses back to the value, the text of `{}`, in a buffer.
+    /// Returns the shortest decimal that parses back to the value, which is also what `{}` prints, in
+    /// a buffer.
     ///
     /// `fixedToStr` of fontTools computes its text from a float instead.
     ///
@@ -470,8 +471,8 @@ where
     }
 
     /// Writes the padded decimal to the start of `out` and returns its length, or returns `None`
-    /// and leaves `out` unchanged if it is too short. A buffer of `max_text_len()` bytes, and of at
-    /// least `pad.width`, is long enough.
+    /// and leaves `out` unchanged if it is too short. `max_text_len()` bytes are enough if
+    /// `pad.width` is not greater, and else `pad.width` bytes.
     ///
     /// ```
     /// use font_types_proved::{Fixed, Pad};

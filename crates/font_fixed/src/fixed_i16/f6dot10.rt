@@ -16,7 +16,7 @@ use crate::formats::Format;
 /// assert_eq!("1.5".parse(), Ok(number));
 /// ```
 ///
-/// Its other methods, as `from_bits` and `round`, are those of [`FixedI16`].
+/// [`FixedI16`] has its other methods, such as `from_bits` and `round`.
 pub type F6Dot10 = FixedI16<10>;
 
 impl Format<16, 10> for F6Dot10 {

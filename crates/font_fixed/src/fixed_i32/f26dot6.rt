@@ -24,7 +24,7 @@ use std::ops::{Div, DivAssign, Mul, MulAssign};
 /// assert_eq!("1.5".parse(), Ok(number));
 /// ```
 ///
-/// Its other methods, as `from_bits` and `round`, are those of [`FixedI32`].
+/// [`FixedI32`] has its other methods, such as `from_bits` and `round`.
 pub type F26Dot6 = FixedI32<6>;
 
 impl Format<32, 6> for F26Dot6 {

@@ -26,7 +26,7 @@ use font_base::{FixedSize, IdentityEq, Scalar};
 /// assert_eq!("1.5".parse(), Ok(number));
 /// ```
 ///
-/// Its other methods, as `from_bits` and `round`, are those of [`FixedI32`].
+/// [`FixedI32`] has its other methods, such as `from_bits` and `round`.
 pub type F2Dot30 = FixedI32<30>;
 
 impl Format<32, 30> for F2Dot30 {

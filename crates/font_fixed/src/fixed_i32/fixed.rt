@@ -35,7 +35,7 @@ use std::ops::{Div, DivAssign, Mul, MulAssign};
 /// assert_eq!("1.5".parse(), Ok(number));
 /// ```
 ///
-/// Its other methods, as `from_bits` and `round`, are those of [`FixedI32`].
+/// [`FixedI32`] has its other methods, such as `from_bits` and `round`.
 pub type Fixed = FixedI32<16>;
 
 impl Format<32, 16> for Fixed {

@@ -16,7 +16,7 @@ use crate::font_fixed::formats::Format;
 /// assert_eq!("1.5".parse(), Ok(number));
 /// ```
 ///
-/// Its other methods, as `from_bits` and `round`, are those of [`FixedI16`].
+/// [`FixedI16`] has its other methods, such as `from_bits` and `round`.
 ///
 /// The source and its contracts: `crates/font_fixed/src/fixed_i16/f4dot12.rt`.
 pub type F4Dot12 = FixedI16<12>;
