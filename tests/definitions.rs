@@ -1,5 +1,6 @@
 //! Definitions for which no test of Rattle has values and `font-types` has no call: against exact
-//! arithmetic and std, and over elements of a caller.
+//! arithmetic and std, and over elements of a caller. Of functions that `tools/smt` proves, a row or
+//! two.
 
 mod exact;
 
@@ -10,38 +11,31 @@ use std::ops::*;
 
 // ---- numbers
 
-/// Returns the integers of a width that are next to zero, to a limit or to a power of two.
-fn integers(width: u32) -> impl Iterator<Item = i128> {
-    let beside = |power: u32| [-1, 0, 1].map(|more| (1i128 << power) + more);
-    let integers = (0..width).flat_map(beside).flat_map(|n| [n, -n]);
-    integers.filter(move |n| fits(width, *n))
-}
-
 macro_rules! one_of_each_width {
     ($($name:ident $Type:ident $bits:ident $f:literal $longest:literal;)*) => {$(
         #[test]
         fn $name() {
-            let one = 1 << $f;
-            let of = |n: i128| $bits::try_from(n).ok().map($Type::from_bits);
-            for (n, x) in integers($bits::BITS).map(|n| (n, $Type::from_bits(n as $bits))) {
-                let rounded = (n + one / 2).div_euclid(one) * one;
-                let ceiling = -(-n).div_euclid(one) * one;
-                let found = [x.checked_round(), x.checked_ceil(), x.checked_abs(), x.checked_neg()];
-                assert_eq!(found, [rounded, ceiling, n.abs(), -n].map(of), "{n}");
-                let wrapped = [rounded, ceiling, n.abs(), -n].map(|n| n as $bits);
-                assert_eq!([x.round(), x.ceil(), x.abs(), -x].map($Type::to_bits), wrapped, "{n}");
-                for (m, y) in integers($bits::BITS).map(|m| (m, $Type::from_bits(m as $bits))) {
-                    let right = [n + m, n - m].map(of);
-                    assert_eq!([x.checked_add(y), x.checked_sub(y)], right, "{n}, {m}");
-                    let [mut sum, mut difference] = [x; 2];
-                    sum += y;
-                    difference -= y;
-                    let found = [x + y, sum, x - y, difference].map($Type::to_bits);
-                    assert_eq!(found, [n + m, n + m, n - m, n - m].map(|n| n as $bits), "{n}, {m}");
-                    let found = [x.saturating_add(y), x.saturating_sub(y)].map($Type::to_bits);
-                    let clamped = |n: i128| n.clamp($bits::MIN.into(), $bits::MAX.into()) as $bits;
-                    assert_eq!(found, [n + m, n - m].map(clamped), "{n}, {m}");
-                }
+            // Half of 1 is a tie, and the sum of it and the largest value overflows.
+            let half = 1 << ($f - 1);
+            let [x, y, z] = [half, $bits::MAX, $bits::MIN].map($Type::from_bits);
+            let [mut sum, mut difference] = [x; 2];
+            sum += y;
+            difference -= z;
+            let wrapped = [x.round(), x.ceil(), -x, (-x).abs(), x + y, sum, x - z, difference];
+            let [more, less] = [$bits::MIN + half - 1, $bits::MIN + half];
+            let right = [2 * half, 2 * half, -half, half, more, more, less, less];
+            assert_eq!(wrapped.map($Type::to_bits), right);
+            assert_eq!([x.saturating_add(y), z.saturating_sub(x)], [y, z]);
+            let checked = [
+                (x.checked_round(), y.checked_round(), 2 * half),
+                (x.checked_ceil(), y.checked_ceil(), 2 * half),
+                (x.checked_neg(), z.checked_neg(), -half),
+                ((-x).checked_abs(), z.checked_abs(), half),
+                (x.checked_add(x), x.checked_add(y), 2 * half),
+                (x.checked_sub(x), z.checked_sub(x), 0),
+            ];
+            for (row, (found, none, right)) in checked.into_iter().enumerate() {
+                assert_eq!((found, none), (Some($Type::from_bits(right)), None), "row {row}");
             }
             assert_eq!($Type::max_text_len(), $longest);
             for text in ["-0", "+1", "--1", "1\0", "\n1", "1/", "1:", "1_0", "\u{661}", "1.5a"] {
@@ -69,138 +63,108 @@ fn lengths_of_the_longest_texts() {
 
 /// Returns the raw values whose products and quotients are tested.
 fn factors() -> impl Iterator<Item = i32> {
-    let factors = [
-        0,
-        3,
-        7,
-        64,
-        0x7FFF,
-        0x8000,
-        0xFFFF,
-        0x1_0000,
-        0x2_0000,
-        0x123_4567,
-        0x4000_0001,
-        i32::MAX,
-    ];
+    let factors = [0, 3, 64, 0x7FFF, 0x8000, 0x1_0000, 0x123_4567, 0x4000_0001, i32::MAX];
     factors.into_iter().flat_map(|n| [n, -n, !n])
 }
 
-/// Returns the integer if it fits.
-fn fitting<T: TryFrom<i128>>(n: i128) -> Option<T> {
-    T::try_from(n).ok()
+/// For each call, its result at the end of what fits, and beside that: `tools/smt` proves the others.
+#[test]
+fn ends_of_checked_calls() {
+    let (f, g, h, k, m) = (
+        Fixed::from_bits,
+        F26Dot6::from_bits,
+        F2Dot30::from_bits,
+        F48Dot16::from_bits,
+        F2Dot14::from_bits,
+    );
+    macro_rules! ends {
+        ($(($fits:expr, $right:expr, $none:expr);)*) => {
+            $(assert_eq!(($fits, $none), (Some($right), None), stringify!($fits));)*
+        };
+    }
+    ends! {
+        (f(3).checked_mul(f(0x8000)), f(2), f(i32::MIN).checked_mul(f(-0x1_0000)));
+        (g(-3).checked_mul(g(32)), g(-2), g(i32::MIN).checked_mul(g(-64)));
+        (f(1).checked_div(f(0x2_0000)), f(1), f(0).checked_div(f(0)));
+        (g(1).checked_div(g(128)), g(1), g(1 << 26).checked_div(g(1)));
+        (f(5).checked_mul_div(f(-1), f(2)), f(-3), f(i32::MIN).checked_mul_div(f(-1), f(1)));
+        (Fixed::checked_from_i32(32767), f(0x7FFF_0000), Fixed::checked_from_i32(32768));
+        (F26Dot6::checked_from_i32(-1 << 25), g(i32::MIN), F26Dot6::checked_from_i32(1 << 25));
+        (F2Dot30::checked_from_fixed(f(0x1_FFFF)), h(0x7FFF_C000),
+            F2Dot30::checked_from_fixed(f(0x2_0000)));
+        (F48Dot16::checked_from_i64((1 << 47) - 1), k(0x7FFF_FFFF_FFFF_0000),
+            F48Dot16::checked_from_i64(1 << 47));
+        (f(0x7FFF_7FFF).checked_to_i32(), 32767, f(0x7FFF_8000).checked_to_i32());
+        (g(0x7FFF_FFDF).checked_to_i32(), (1 << 25) - 1, g(0x7FFF_FFE0).checked_to_i32());
+        (f(0x7FFF_FDFF).checked_to_f26dot6(), g(0x1F_FFFF), f(0x7FFF_FE00).checked_to_f26dot6());
+        (f(0x1_FFFD).checked_to_f2dot14(), m(0x7FFF), f(0x1_FFFE).checked_to_f2dot14());
+        (h(0x7FFF_7FFF).checked_to_f2dot14(), m(0x7FFF), h(0x7FFF_8000).checked_to_f2dot14());
+        (k(0x7FFF_FFFF_7FFF).checked_to_i32(), i32::MAX, k(0x7FFF_FFFF_8000).checked_to_i32());
+        (k(0x7FFF_FFFF_FFFF_7FFF).checked_to_i64(), (1 << 47) - 1,
+            k(0x7FFF_FFFF_FFFF_8000).checked_to_i64());
+        (k(-1 << 31).checked_to_fixed(), f(i32::MIN), k(1 << 31).checked_to_fixed());
+        (UfWord::new(32767).checked_to_fixed(), f(0x7FFF_0000),
+            UfWord::new(32768).checked_to_fixed());
+        (FWord::round_delta(0x7FFF_7FFF), FWord::new(32767), FWord::round_delta(0x7FFF_8000));
+        (UfWord::round_delta(-0x8000), UfWord::new(0), UfWord::round_delta(-0x8001));
+        (F2Dot14::round_delta(-0x8000_8000), m(i16::MIN), F2Dot14::round_delta(-0x8000_8001));
+        (Fixed::round_delta(0x7FFF_FFFF_7FFF), Fixed::MAX, Fixed::round_delta(1 << 47));
+        (FWord::new(9).checked_add_delta(k(0x8000)), FWord::new(10),
+            FWord::new(32767).checked_add_delta(k(0x8000)));
+        (UfWord::new(9).checked_add_delta(k(-0x8001)), UfWord::new(8),
+            UfWord::new(0).checked_add_delta(k(-0x8001)));
+        (UfWord::new(65534).checked_add_delta(k(0x1_0000)), UfWord::new(65535),
+            UfWord::new(65535).checked_add_delta(k(0x8000)));
+        (Uint24::try_from(0xFF_FFFF).ok(), Uint24::MAX, Uint24::try_from(0x100_0000).ok());
+        // The sum overflows before the last term.
+        (Matrix::from_elements([0x1_0000, 0, 0x1_0000, 0, -1, 0].map(f))
+            .checked_transform(Fixed::MAX, f(1)), (Fixed::MAX, f(0)),
+            Matrix::from_elements([0x1_0000, 0, 0x1_0000, 0, 0, 0].map(f))
+                .checked_transform(Fixed::MAX, f(1)));
+        (m(9).checked_add_delta(k(0x7FFF)), m(9), m(i16::MIN).checked_add_delta(k(-0x8001)));
+        (f(9).checked_add_delta(k(-0x8000)), f(9), f(i32::MAX).checked_add_delta(k(0x8000)));
+        (Point::new(f(1), f(2)).checked_add(Point::new(f(3), f(4))), Point::new(f(4), f(6)),
+            Point::new(f(1), Fixed::MAX).checked_add(Point::new(f(3), f(4))));
+        (Point::new(f(1), f(2)).checked_sub(Point::new(f(3), f(5))), Point::new(f(-2), f(-3)),
+            Point::new(Fixed::MIN, f(2)).checked_sub(Point::new(f(3), f(5))));
+        (Matrix::from_elements([2, 3, 5, 7, 11, 13].map(f)).checked_image(
+            Point::new(g(1 << 16), g(1 << 17))), Point::new(g(23), g(30)),
+            Matrix::from_elements([2, 3, 5, 7, i32::MAX, 13].map(f))
+                .checked_image(Point::new(g(1 << 16), g(1 << 17))));
+    }
+    assert_eq!([h(0x2000).to_fixed(), F2Dot30::from_fixed(f(3)).to_fixed()], [f(1), f(3)]);
 }
 
 #[test]
-fn checked_products_and_quotients() {
-    let of_quotient = |n, d| if d == 0 { None } else { fitting(near(n, d)) };
-    for [x, y, z] in
-        factors().flat_map(|x| factors().flat_map(move |y| factors().map(move |z| [x, y, z])))
-    {
-        let [n, m, d] = [x, y, z].map(i128::from);
-        let [a, b, c] = [x, y, z].map(Fixed::from_bits);
-        let found = [a.checked_mul(b), a.checked_div(b), a.checked_mul_div(b, c)]
-            .map(|n| n.map(Fixed::to_bits));
-        assert_eq!(
-            found,
-            [fitting(near(n * m, 1 << 16)), of_quotient(n << 16, m), of_quotient(n * m, d)],
-            "{x} {y} {z}"
-        );
-        let [mut product, mut quotient] = [a; 2];
-        product *= b;
-        quotient /= b;
-        assert_eq!([product, quotient], [a * b, a / b], "{x} {y}");
-        let [a, b] = [x, y].map(F26Dot6::from_bits);
-        let found = [a.checked_mul(b), a.checked_div(b)].map(|n| n.map(F26Dot6::to_bits));
-        assert_eq!(found, [fitting(near(n * m, 64)), of_quotient(n << 6, m)], "{x} {y}");
-    }
+fn numbers_of_ids_offsets_and_versions() {
+    let (n, long, middle) = (0x8001, 0x8001, Uint24::new(0x8001));
+    let numbers: [u16; 3] =
+        [GlyphId16::new(n).into(), NameId::from(n).into(), UfWord::from(n).into()];
+    assert_eq!(numbers, [n; 3]);
+    let indices = [
+        GlyphId16::new(n).to_usize(),
+        GlyphId24::new(long).to_usize(),
+        GlyphId::from(n).to_usize(),
+        Offset16::new(n).to_usize(),
+        Offset24::new(middle).to_usize(),
+        Offset24::new(middle).into(),
+        Offset32::new(long).to_usize(),
+        middle.into(),
+    ];
+    assert_eq!(indices, [0x8001; 8]);
+    let (word, signed) = (UfWord::new(n), FWord::new(-0x7FFF));
+    assert_eq!([i32::from(word), signed.into()], [0x8001, -0x7FFF]);
+    assert_eq!(Fixed::from(signed), Fixed::from_i32(-0x7FFF));
+    let nullable = |raw| Nullable::<Offset16>::from_raw(raw).get();
+    assert_eq!([nullable([0, 0]), nullable([0, 1])], [None, Some(Offset16::new(1))]);
+    assert_eq!(Tag::from_u32(long).to_u32(), long);
+    assert!(NameId::new(255).is_reserved() && !NameId::new(256).is_reserved());
+    assert!(MajorMinor::new(2, 5).compatible((2, 5)) && !MajorMinor::new(2, 4).compatible((2, 5)));
 }
 
-/// Returns `n / 2^f` rounded half up, or `None` if it does not fit in `width` bits.
-fn narrowed<T: TryFrom<i128>>(n: i128, f: u32, width: u32) -> Option<T> {
-    fitting(up(n, 1 << f)).filter(|_| fits(width, up(n, 1 << f)))
-}
-
-#[test]
-fn checked_conversions() {
-    for n in integers(32) {
-        let (x, long, integer) =
-            (Fixed::from_bits(n as i32), F2Dot30::from_bits(n as i32), n as i32);
-        let found =
-            [x.checked_to_f2dot14(), long.checked_to_f2dot14()].map(|n| n.map(F2Dot14::to_bits));
-        assert_eq!(found, [narrowed(n, 2, 16), narrowed(n, 16, 16)], "{n}");
-        let found = [
-            F2Dot30::checked_from_fixed(x).map(F2Dot30::to_bits),
-            Fixed::checked_from_i32(integer).map(Fixed::to_bits),
-        ];
-        assert_eq!(found, [fitting(n << 14), fitting(n << 16)], "{n}");
-        let found = [F26Dot6::checked_from_i32(integer), x.checked_to_f26dot6()]
-            .map(|n| n.map(F26Dot6::to_bits));
-        assert_eq!(found, [fitting(n << 6), narrowed(n, 10, 22)], "{n}");
-        let found = [x.checked_to_i32(), F26Dot6::from_bits(integer).checked_to_i32()];
-        assert_eq!(found, [narrowed(n, 16, 16), narrowed(n, 6, 26)], "{n}");
-        assert_eq!(
-            [F2Dot30::from_fixed(x).to_bits(), long.to_fixed().to_bits()],
-            [n << 14, up(n, 1 << 14)].map(|n| n as i32)
-        );
-    }
-    for n in integers(64) {
-        let x = F48Dot16::from_bits(n as i64);
-        assert_eq!(
-            [x.checked_to_i32(), x.checked_to_fixed().map(Fixed::to_bits)],
-            [narrowed(n, 16, 32), fitting(n)],
-            "{n}"
-        );
-        let found =
-            [x.checked_to_i64(), F48Dot16::checked_from_i64(n as i64).map(F48Dot16::to_bits)];
-        assert_eq!(found, [narrowed(n, 16, 48), fitting(n << 16)], "{n}");
-    }
-    for n in 0..=u16::MAX {
-        assert_eq!(
-            UfWord::new(n).checked_to_fixed().map(Fixed::to_bits),
-            fitting(i128::from(n) << 16),
-            "{n}"
-        );
-    }
-}
-
-/// Deltas of each base that they move, and results of `apply_delta`, in units of `2^-16`.
+/// Of as many terms as no solver goes through one by one.
 #[test]
 fn deltas() {
-    let ends = [i128::MIN, i128::MAX, 1 << 63, -1 << 63];
-    for moved in integers(64).chain(ends) {
-        let nearest = (moved >> 16) + (moved >> 15 & 1);
-        let found = [
-            FWord::round_delta(moved).map(FWord::to_i16),
-            F2Dot14::round_delta(moved).map(F2Dot14::to_bits),
-        ];
-        assert_eq!(found, [fitting(nearest); 2], "{moved}");
-        assert_eq!(UfWord::round_delta(moved).map(UfWord::to_u16), fitting(nearest), "{moved}");
-        assert_eq!(Fixed::round_delta(moved).map(Fixed::to_bits), fitting(nearest), "{moved}");
-    }
-    for delta in integers(64) {
-        let sum = F48Dot16::from_bits(delta as i64);
-        let moved = |base: i128| (base * 0x1_0000 + delta + 0x8000).div_euclid(0x1_0000);
-        for base in integers(32) {
-            let x = Fixed::from_bits(base as i32);
-            assert_eq!(
-                x.checked_add_delta(sum).map(Fixed::to_bits),
-                fitting(moved(base)),
-                "{base}, {delta}"
-            );
-            assert_eq!(x.apply_delta(sum), base * 0x1_0000 + delta, "{base}, {delta}");
-        }
-        for base in integers(16) {
-            let (word, short) = (FWord::new(base as i16), F2Dot14::from_bits(base as i16));
-            let found = [
-                word.checked_add_delta(sum).map(FWord::to_i16),
-                short.checked_add_delta(sum).map(F2Dot14::to_bits),
-            ];
-            assert_eq!(found, [fitting(moved(base)); 2], "{base}, {delta}");
-            let word = UfWord::new(base as u16).checked_add_delta(sum).map(UfWord::to_u16);
-            assert_eq!(word, fitting(moved(i128::from(base as u16))), "{base}, {delta}");
-        }
-    }
     let (many, mut sum) = ([(Fixed::MIN, i32::MIN); 65], DeltaSum::default());
     for (scalar, delta) in many {
         sum.add(scalar, delta);
@@ -473,62 +437,12 @@ fn arrays() {
 }
 
 #[test]
-fn numbers_of_ids_offsets_and_versions() {
-    for n in [0, 1, 0x7FFF, 0x8000, 0xFFFF] {
-        let (id, long, offset) = (GlyphId16::new(n), u32::from(n), Offset16::new(n));
-        let middle = GlyphId24::new(long);
-        assert_eq!([u16::from(id), u16::from(NameId::from(n)), u16::from(UfWord::from(n))], [n; 3]);
-        let of_24_bits = Offset24::new(Uint24::new(long));
-        let found =
-            [id.to_usize(), middle.to_usize(), GlyphId::from(n).to_usize(), offset.to_usize()];
-        assert_eq!(found, [usize::from(n); 4]);
-        let found = [of_24_bits.to_usize(), of_24_bits.into(), Offset32::new(long).to_usize()];
-        assert_eq!(found, [usize::from(n); 3]);
-        assert_eq!(
-            [i32::from(UfWord::new(n)), i32::from(FWord::new(n as i16))],
-            [n as i32, n as i16 as i32]
-        );
-        assert_eq!(Fixed::from(FWord::new(n as i16)), Fixed::from_i32((n as i16).into()));
-        assert_eq!(GlyphId16::try_from(GlyphId::from(n)), Ok(id));
-        let nullable = Nullable::<Offset16>::read(&n.to_be_bytes()).unwrap();
-        assert_eq!(nullable.get(), (n != 0).then_some(offset));
-        assert_eq!(Tag::from_u32(long).to_u32(), long);
-    }
+fn constants_and_orders() {
     assert_eq!((Uint24::default(), Int24::default()), (Uint24::new(0), Int24::new(0)));
     let zeros = (GlyphId::new(0), GlyphId16::new(0), GlyphId24::new(0));
     assert_eq!((GlyphId::NOTDEF, GlyphId16::NOTDEF, GlyphId24::NOTDEF), zeros);
-    for n in [0, 0xFF_FFFF, 0x100_0000] {
-        let right = (n <= 0xFF_FFFF).then_some(n);
-        assert_eq!(Uint24::try_from(n).ok().map(usize::from), right, "{n}");
-    }
-    for (n, more, sum) in
-        [(1, 1, Some(2)), (32767, 0, Some(32767)), (32767, 1, None), (65535, 2, None)]
-    {
-        assert_eq!(NameId::new(n).checked_add(more), sum.map(NameId::new), "{n} {more}");
-    }
-    assert!(NameId::new(255).is_reserved() && !NameId::new(256).is_reserved());
     assert!(Tag::new(b"Kern") < Tag::new(b"a\xFF  ") && Tag::new(b"b   ") < Tag::new(b"kern"));
     assert_eq!(format!("{:+} {:>3}", FWord::new(5), UfWord::new(7)), "+5   7");
-    for ((a, b), other, is_compatible) in [
-        ((2, 5), (2, 0), true),
-        ((2, 5), (2, 5), true),
-        ((2, 4), (2, 5), false),
-        ((3, 0), (2, 0), false),
-        ((1, 9), (2, 0), false),
-    ] {
-        let (packed, pair) = (Version16Dot16::new(a, b), MajorMinor::new(a, b));
-        let found = [
-            packed.compatible(Version16Dot16::new(other.0, other.1)),
-            packed.compatible(other),
-            pair.compatible(MajorMinor::new(other.0, other.1)),
-            pair.compatible(other),
-        ];
-        assert_eq!(found, [is_compatible; 4], "{a}.{b} {other:?}");
-    }
-    assert!(200u16.compatible(3) && 3u16.compatible(3) && !3u16.compatible(200));
-    // Low bits, which no minor number has, do not count.
-    let of = |n: u32| Version16Dot16::from_raw(n.to_be_bytes());
-    assert!(of(0x0001_1000).compatible(of(0x0001_1FFF)));
 }
 
 // ---- elements of a caller
@@ -651,63 +565,26 @@ fn matrices() {
 }
 
 #[test]
-fn checked_images_and_products() {
-    // Signed corners, and numbers near to half of the range: partial sums overflow, and come back.
-    let values =
-        [i32::MIN, -0x4E20_0001, -0x1_8000, -1, 0, 0x8000, 0x1_0000, 0x4E20_0000, i32::MAX];
-    let fixed = Fixed::from_bits;
-    let form = |p: i32, x: i32, q: i32, y: i32, d: i32| {
-        let [p, x, q, y, d] = [p, x, q, y, d].map(i128::from);
-        let sum = near(p * x, 1 << 16) + near(q * y, 1 << 16) + d;
-        i32::try_from(sum).ok().map(fixed)
-    };
+fn laws_of_checked_matrices() {
+    let values = [-0x1_8000, 0x8000, 0x1_0000, 0x4E20_0000];
     let (mut kept, mut refused) = (0, 0);
-    for n in 0..values.len().pow(5) {
-        let [p, q, x, y, d] = [0, 1, 2, 3, 4].map(|place| values[n / 9usize.pow(place) % 9]);
-        let r = q.wrapping_neg();
-        let a = Matrix::from_elements([p, q, r, x, d, y].map(fixed));
-        let found = a.checked_transform(fixed(x), fixed(y));
-        let right = form(p, x, r, y, d).zip(form(q, x, x, y, y));
-        assert_eq!(found, right, "{p} {q} {x} {y} {d}");
-        let of_pixels = a.checked_image(Point::new(x, y).map(F26Dot6::from_bits));
-        let bits = right.map(|(x, y)| Point::new(x.to_bits(), y.to_bits()));
-        assert_eq!(of_pixels.map(|moved| moved.map(F26Dot6::to_bits)), bits);
-        if let Some(image) = found {
-            assert_eq!(image, a.transform(fixed(x), fixed(y)));
+    for n in 0..values.len().pow(4) {
+        let [p, q, x, y] =
+            [0, 1, 2, 3].map(|place| Fixed::from_bits(values[n / 4usize.pow(place) % 4]));
+        let (a, b) =
+            (Matrix::from_elements([p, q, -q, x, y, y]), Matrix::from_elements([x, y, p, q, p, x]));
+        let image = |m: Matrix<Fixed>, p: Point<Fixed>| {
+            m.checked_transform(p.x, p.y).map(|(x, y)| Point::new(x, y))
+        };
+        let w = Point::new(x, y);
+        let right =
+            [a.checked_mul(b).and_then(|ab| image(ab, w)), image(b, w).and_then(|bw| image(a, bw))];
+        assert_eq!([laws::checked_composed(a, b, w), laws::checked_in_turn(a, b, w)], right);
+        for it in right {
+            if it.is_some() { kept += 1 } else { refused += 1 }
         }
-        let b = Matrix::from_elements([x, d, y, p, q, d].map(fixed));
-        let right = [
-            form(p, x, r, d, 0),
-            form(q, x, x, d, 0),
-            form(p, y, r, p, 0),
-            form(q, y, x, p, 0),
-            form(p, q, r, d, d),
-            form(q, q, x, d, y),
-        ];
-        let right = right.iter().copied().collect::<Option<Vec<Fixed>>>();
-        let found = a.checked_mul(b);
-        assert_eq!(found.map(|ab| ab.elements().to_vec()), right, "{p} {q} {x} {y} {d}");
-        match found {
-            Some(product) => {
-                assert_eq!(product, a * b);
-                kept += 1;
-            }
-            None => refused += 1,
-        }
-        let (v, w) = (Point::new(fixed(p), fixed(q)), Point::new(fixed(x), fixed(y)));
-        let both = |x: Option<Fixed>, y: Option<Fixed>| x.zip(y).map(|(x, y)| Point::new(x, y));
-        let right = [
-            both(v.x.checked_add(w.x), v.y.checked_add(w.y)),
-            both(v.x.checked_sub(w.x), v.y.checked_sub(w.y)),
-        ];
-        assert_eq!([v.checked_add(w), v.checked_sub(w)], right);
-        let found = [laws::checked_composed(a, b, w), laws::checked_in_turn(a, b, w)];
-        let image = |m: Matrix<Fixed>, p: Point<Fixed>| m.checked_transform(p.x, p.y);
-        let in_turn = image(b, w).and_then(|(x, y)| a.checked_transform(x, y));
-        let composed = a.checked_mul(b).and_then(|ab| image(ab, w));
-        assert_eq!(found, [composed, in_turn].map(|p| p.map(|(x, y)| Point::new(x, y))));
     }
-    assert!(kept > 100 && refused > 100, "{kept} {refused}");
+    assert!(kept > 50 && refused > 50, "{kept} {refused}");
     const HALVED: Option<(Fixed, Fixed)> = Matrix::from_elements([Fixed::from_bits(0x8000); 6])
         .checked_transform(Fixed::ONE, Fixed::ONE);
     assert_eq!(HALVED.map(|(x, _)| x.to_bits()), Some(0x1_8000));
@@ -730,36 +607,12 @@ fn scales() {
         assert_eq!(scale, Scale::from_factor(Fixed::from_bits(factor)));
         assert_eq!(scale.apply(units).to_bits(), pixels, "{size} {units_per_em} {units}");
     }
-    let words = [i16::MIN, -700, -1, 0, 1, 3, 700, i16::MAX];
-    let more = [i32::MIN, -65536, -65535, 65535, 65536, i32::MAX];
-    let sizes = [i32::MIN, -768, -1, 0, 1, 640, 1029, 16320, i32::MAX];
-    let number = |n: i128| i32::try_from(n).ok();
-    for (size, em) in sizes.iter().flat_map(|&s| [0, 1, 15, 16, 1000, 2048, 0xFFFF].map(|m| (s, m)))
-    {
-        let (m, s) = (i128::from(em), i128::from(size));
-        let factor = if em == 0 { None } else { number(near(s << 16, m)) };
-        let of = F26Dot6::from_bits(size);
-        assert_eq!(Scale::new(of, em).map(|it| it.factor().to_bits()), factor, "{size} {em}");
-        let pixels = |units: i128| number(near(units * i128::from(factor?), 1 << 16));
-        for (u, v) in words.iter().flat_map(|&u| words.map(|v| (u, v))) {
-            let (p, q) = (pixels(u.into()), pixels(v.into()));
-            let found = laws::scaled(of, em, u, v);
-            assert_eq!(found.map(|(p, q)| (p.to_bits(), q.to_bits())), p.zip(q), "{size} {em} {u}");
-            let Some(scale) = Scale::new(of, em) else { continue };
-            let found = scale.apply_point(Point::new(u, v)).map(F26Dot6::to_bits);
-            assert_eq!(Some(found), p.zip(q).map(|(p, q)| Point::new(p, q)));
-            let (p, u) = (i128::from(found.x), i128::from(u));
-            assert!((p * m - u * s).abs() << 17 <= m * (65536 + u.abs()), "{size} {em} {u}");
-        }
-        let Some(scale) = Scale::new(of, em) else { continue };
-        for (u, v) in more.iter().flat_map(|&u| more.map(|v| (u, v))) {
-            let both = Point::new(pixels(u.into()), pixels(v.into()));
-            assert_eq!(scale.checked_apply(u).map(F26Dot6::to_bits), both.x, "{size} {em} {u}");
-            let found = scale.checked_apply_point(Point::new(u, v));
-            let right = both.x.zip(both.y).map(|(x, y)| Point::new(x, y));
-            assert_eq!(found.map(|it| it.map(F26Dot6::to_bits)), right, "{size} {em} {u} {v}");
-        }
-    }
+    assert_eq!([Scale::new(F26Dot6::ONE, 0), Scale::new(F26Dot6::MAX, 1)], [None; 2]);
+    let scale = Scale::from_factor(Fixed::from_bits(0x1_8000));
+    let found = scale.checked_apply_point(Point::new(3, -3)).map(|it| it.map(F26Dot6::to_bits));
+    assert_eq!((found, scale.checked_apply(i32::MAX)), (Some(Point::new(5, -5)), None));
+    let pixels = laws::scaled(F26Dot6::from_bits(768), 1000, 700, -250);
+    assert_eq!(pixels.map(|(x, y)| [x, y].map(F26Dot6::to_bits)), Some([538, -192]));
     const HALF: Option<Scale> = Scale::new(F26Dot6::from_bits(512), 1024);
     assert_eq!(HALF.map(|it| it.apply_point(Point::new(2, -3)).y.to_bits()), Some(-2));
 }
@@ -794,7 +647,9 @@ fn laws_of_calls() {
         // The delta moves half of a unit up, and no more.
         let [delta, more] = [m * 65_537, m * 65_537 + d].map(|n| F48Dot16::from_bits(n as i64));
         let moved = |n, delta: F48Dot16| {
-            fitting(up((n << 16) + i128::from(delta.to_bits()), 1 << 16)).map(Fixed::from_bits)
+            i32::try_from(up((n << 16) + i128::from(delta.to_bits()), 1 << 16))
+                .ok()
+                .map(Fixed::from_bits)
         };
         assert_eq!(laws::fixed::delta_in_steps(x, delta), (moved(n, delta), moved(n, delta)));
         let found = laws::fixed::deltas_in_order(x, c, delta, more);
