@@ -27,13 +27,13 @@ with = @missing=$$(for it in $(1); do command -v $$it >/dev/null || echo $$it; d
 with += ; [[ -z $$missing ]] || { echo "left out: $@, which needs $$missing"; exit 0; }
 
 rust:
-	$(call with,cargo)
+	$(call with,cargo cc)
 	cargo test --quiet
 	cargo test --quiet --release --test program --test original --test preconditions
 	cargo test --quiet --manifest-path variations/Cargo.toml
 
 pages:
-	$(call with,cargo rustdoc)
+	$(call with,cargo cc rustdoc)
 	export RUSTDOCFLAGS=-Dwarnings
 	for it in . variations; do cargo doc --quiet --no-deps --manifest-path $$it/Cargo.toml; done
 	cargo build --quiet
@@ -48,24 +48,24 @@ lints:
 	for it in . c compare variations; do cargo fmt --check --manifest-path $$it/Cargo.toml; done
 
 workspaces:
-	$(call with,cargo git)
+	$(call with,cargo cc git)
 	tests/workspaces
 
 # A copy of the package under the name of font-types, with what readers of fonts need, compiles.
 fontations:
-	$(call with,cargo python3)
+	$(call with,cargo cc python3)
 	compare/fontations/copy "$$CARGO_TARGET_DIR/copy"
 	RUSTFLAGS=-Awarnings cargo build --quiet --offline --manifest-path "$$CARGO_TARGET_DIR/copy/Cargo.toml" \
 		--config 'patch.crates-io.bytemuck.path="compare/fontations/bytemuck"'
 
 tools:
-	$(call with,cargo python3 rustfmt)
+	$(call with,cargo cc python3 rustfmt)
 	python3 -B -m unittest discover -q tools/tests -p '*.py' 2>&1 | tee -a /dev/stderr |
 		grep "^Ran $$(cat tools/tests/*.py | grep -c '^    def test_') tests in" >/dev/null
 
 # What these two print has a line for each function, which is left out here.
 smt smt-checked:
-	$(call with,$(if $(PYTHON),,python3-z3) $(if $(IS_RUSTC),,rustc-$(RUSTC)))
+	$(call with,cc $(if $(PYTHON),,python3-z3) $(if $(IS_RUSTC),,rustc-$(RUSTC)))
 	$(PYTHON) tools/smt $(filter --checked,$(@:smt%=-%)) | sed '/ proved$$/d'
 
 mir:
@@ -81,12 +81,12 @@ fetched = cargo fetch --quiet --manifest-path compare/Cargo.toml $(FETCHED) ||
 fetched += { echo "left out: $@, which needs font-types, which cargo cannot fetch"; exit 0; }
 
 compare:
-	$(call with,cargo)
+	$(call with,cargo cc)
 	$(fetched)
 	cargo test --quiet --release --manifest-path compare/Cargo.toml $(FETCHED)
 
 # The tests that `compare` runs call each function of font-types.
 compared:
-	$(call with,cargo python3 objdump c++filt $(if $(IS_RUSTC),,rustc-$(RUSTC)))
+	$(call with,cargo cc python3 objdump c++filt $(if $(IS_RUSTC),,rustc-$(RUSTC)))
 	$(fetched)
 	compare/compared $(FETCHED)

@@ -33,7 +33,7 @@ COUNTS = [
     ("tests/", ".rs", "#[test]\n", 208),
     ("compare/tests/", ".rs", "#[test]\n", 37),
     ("crates/", ".rt", "#[test]\n", 151),
-    ("tools/tests/", ".py", "\n    def test_", 24),
+    ("tools/tests/", ".py", "\n    def test_", 25),
     ("tests/", ".rs", "#[ignore", 1),
     ("compare/tests/", ".rs", "#[ignore", 0),
     ("tests/", ".rs", "#[cfg", 11),
