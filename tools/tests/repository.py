@@ -197,9 +197,14 @@ class Pages(unittest.TestCase):
 class Package(unittest.TestCase):
     def test_files(self) -> None:
         """The package has the Rust, the source that it is made from, and the words of its
-        contracts; its pages link to no file."""
-        packed = set(run("cargo", "package", "--list", "--allow-dirty", "--offline"))
-        packed -= {"Cargo.lock", "Cargo.toml.orig", ".cargo_vcs_info.json"}
+        contracts; its pages link to no file. The package of variations has the Rust and its pages.
+        Both have a license."""
+
+        def files(*options: str) -> set[str]:
+            packed = run("cargo", "package", "--list", "--allow-dirty", "--offline", *options)
+            return set(packed) - {"Cargo.lock", "Cargo.toml.orig", ".cargo_vcs_info.json"}
+
+        packed = files()
         expected = {path for path in of("src/") if not path.startswith("src/bin/")}
         for name in "base decimal fixed geom ids tags types".split():
             source = of(f"crates/font_{name}/src/", ".rt")
@@ -209,6 +214,9 @@ class Package(unittest.TestCase):
             "CHANGELOG.md Cargo.toml LICENSE-APACHE LICENSE-MIT docs/PORTING.md".split()
         )
         self.assertEqual(packed, expected)
+        expected = {path.removeprefix("variations/") for path in of("variations/src/")}
+        expected.update("Cargo.toml LICENSE-MIT README.md".split())
+        self.assertEqual(files("--manifest-path", "variations/Cargo.toml"), expected)
         for page in packed:
             for link in text(page).split("](")[1:] if page.endswith(".md") else ():
                 self.assertTrue(link.startswith("https:"), f"{page}: {link[:40]}")
