@@ -98,17 +98,15 @@ pub fn advance(
     }
 }
 
-/// Returns the advances of all glyphs at these coordinates, by `HVAR`. The scalar of each region is
-/// computed once.
-pub fn all_advances(font: &Font<'_>, coordinates: &[F2Dot14]) -> Option<Vec<UfWord>> {
+/// Returns the advances of all glyphs at these coordinates, by `HVAR`: none for a glyph whose set is
+/// not there or whose advance is out of range. The scalar of each region is computed once.
+pub fn all_advances(font: &Font<'_>, coordinates: &[F2Dot14]) -> Option<Vec<Option<UfWord>>> {
     let hvar = of_version(font, b"HVAR", 1).ok()??;
     let (store, _) = store_and_set(hvar, GlyphId16::new(0))?;
     let mut scalars = vec![Fixed::ZERO; region_count(store)?.into()];
     let instance = StoreInstance::new(store, coordinates, &mut scalars)?;
-    let glyphs = (0..font.glyph_count()?).map(GlyphId16::new);
-    glyphs
-        .map(|glyph| instance.varied(font.advance(glyph)?, store_and_set(hvar, glyph)?.1))
-        .collect()
+    let varied = |glyph| instance.varied(font.advance(glyph)?, store_and_set(hvar, glyph)?.1);
+    Some((0..font.glyph_count()?).map(GlyphId16::new).map(varied).collect())
 }
 
 /// The deltas of the font's metrics at these coordinates, by `MVAR`: of `xhgt`, the height of an x,
@@ -170,17 +168,22 @@ fn main() -> Result<(), Box<dyn std::error::Error>> {
         let advance = advance(&font, GlyphId16::new(glyph), &coordinates)?;
         println!("glyph {glyph}: {advance}");
     }
+    let mut in_range = true;
     if more.contains(&"all".into()) {
         let advances =
             all_advances(&font, &coordinates).ok_or("no advances of all glyphs by `HVAR`")?;
         for (glyph, advance) in advances.iter().enumerate() {
-            println!("glyph {glyph}: {advance}");
+            match advance {
+                Some(advance) => println!("glyph {glyph}: {advance}"),
+                None => println!("glyph {glyph}: no advance in range"),
+            }
         }
+        in_range = !advances.contains(&None);
     }
     if more.contains(&"metrics".into()) {
         for (tag, delta) in metrics(&font, &coordinates).ok_or("no deltas by `MVAR`")? {
             println!("{tag}: {delta}");
         }
     }
-    Ok(())
+    if in_range { Ok(()) } else { Err("no advance in range for every glyph".into()) }
 }

@@ -18,7 +18,7 @@ use font_variations_proved::instances::{StoreInstance, region_count};
 use font_variations_proved::maps::{DeltaSetIndex, read_delta_set_index};
 use font_variations_proved::regions::region_scalar;
 use fonts::{MAP, MAPS, at_the_limits, font, font_of, fvar, hvar, hvar_of_two_axes};
-use fonts::{long_axes, of_five_axes, two_axes, words};
+use fonts::{long_axes, of_five_axes, two_axes, variations, words};
 use instance::{advance, all_advances, axes, metrics, normalized, segment_maps};
 use std::fs;
 use std::path::{Path, PathBuf};
@@ -223,7 +223,7 @@ fn advances_along_two_axes() {
         for at in settings.map(|at| at.map(F2Dot14::from_bits)) {
             let glyphs = (0..48).map(GlyphId16::new);
             let apart = glyphs.map(|glyph| advance(&font, glyph, &at).ok()).collect();
-            assert_eq!(all_advances(&font, &at), apart, "{map:?} at {at:?}");
+            assert_eq!(all_advances(&font, &at), Some(apart), "{map:?} at {at:?}");
         }
     }
 }
@@ -333,6 +333,19 @@ fn program_instance() {
         let found = instance_of(&one, &format!("wght=650 {word}"));
         assert_eq!(found, (String::new(), format!("{word}: {error}")));
     }
+}
+
+// Of the sets, the second takes 1000 from an advance, at the peak of its region; the map gives it to
+// glyph 1 alone.
+#[test]
+fn program_instance_of_all_glyphs() {
+    let mut hvar = words(&variations(60, &[2, 1, 1, 0, 40, -1000_i16 as u16]));
+    hvar.extend([0, 0, 0, 3, 0, 1, 0]);
+    let found = instance_of(&font(hvar), "wght=900 all");
+    let first = "wght: 900, from 100 to 900\nA: 660\na: 540\n\
+        glyph 0: 540\nglyph 1: no advance in range\n";
+    let lines: String = (2..48).map(|glyph| format!("glyph {glyph}: 660\n")).collect();
+    assert_eq!(found, (first.to_owned() + &lines, "no advance in range for every glyph".into()));
 }
 
 #[test]
