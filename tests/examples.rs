@@ -228,6 +228,32 @@ fn advances_along_two_axes() {
     }
 }
 
+// FreeType 2.12.1 gives these advances, which tests/fonts/made/make.py prints. The product of the
+// rounded scalars of the axes gives none of them.
+#[test]
+fn advances_of_made_fonts() {
+    let rows: [(&[i16], u16, u16); 10] = [
+        (&[9877, 9538], 1, 31203),
+        (&[5364, 12886, 12141], 1, 25114),
+        (&[5133, 10545, 6430, 13124], 1, 20036),
+        (&[14334, 8461], 1, 16015),
+        (&[8335, 8302, 7942], 0, 15078),
+        (&[10623, 3568, 12255, 8159], 1, 10961),
+        (&[3918, 2938], 0, 16687),
+        (&[2304, 6814, 12328], 0, 12511),
+        (&[7827, 2698, 14250, 11334], 0, 13639),
+        (&[13325, 2259], 1, 10189),
+    ];
+    for (number, (at, glyph, wanted)) in rows.into_iter().enumerate() {
+        let path = format!("{}/tests/fonts/made/{number}.ttf", env!("CARGO_MANIFEST_DIR"));
+        let bytes = fs::read(path).unwrap();
+        let font = instance::font::Font::new(&bytes).unwrap();
+        let at: Vec<_> = at.iter().map(|at| F2Dot14::from_bits(*at)).collect();
+        let found = advance(&font, GlyphId16::new(glyph), &at).map(UfWord::to_u16);
+        assert_eq!(found, Ok(wanted), "{number}.ttf");
+    }
+}
+
 // The delta sets of glyphs 0 and 1 above, as fontTools has them, and of no variation, in records of
 // ten bytes.
 #[test]
