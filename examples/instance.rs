@@ -13,7 +13,7 @@ pub mod font;
 use font::Font;
 use font_types_proved::{F2Dot14, F48Dot16, Fixed, GlyphId16, Scalar, Tag, UfWord, records};
 use font_variations_proved::advances::{store_and_set, varied_by};
-use font_variations_proved::evaluator::{SegmentMaps, Setting, SettingError, VariationAxisRecord};
+use font_variations_proved::evaluator::{SegmentMaps, Setting, VariationAxisRecord};
 use font_variations_proved::evaluator::{final_coordinate, normalize, read_axis, read_setting};
 use font_variations_proved::instances::{StoreInstance, region_count};
 use font_variations_proved::maps::DeltaSetIndex;
@@ -126,11 +126,7 @@ pub fn metrics(font: &Font<'_>, coordinates: &[F2Dot14]) -> Option<Vec<(Tag, F48
 
 /// The setting that a word is, of an axis that the font has.
 fn setting(word: &str, axes: &[VariationAxisRecord]) -> Result<Setting, String> {
-    let setting = read_setting(word).map_err(|error| match error {
-        SettingError::NoValue => format!("{word}: no `=`"),
-        SettingError::Axis(error) => format!("{word}: {error}"),
-        SettingError::Value(error) => format!("{word}: {error}"),
-    })?;
+    let setting = read_setting(word).map_err(|error| format!("{word}: {error}"))?;
     if !axes.iter().any(|axis| axis.axis_tag == setting.axis) {
         return Err(format!("{word}: the font has no such axis"));
     }

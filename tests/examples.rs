@@ -13,13 +13,14 @@ use dump::dump;
 use font_types_proved::{F2Dot14, F48Dot16, Fixed, GlyphId16, Tag, UfWord};
 use font_variations_proved::advances::{store_and_set, varied_by};
 use font_variations_proved::delta_sets::{read_delta, set_sum};
-use font_variations_proved::evaluator::segment_map;
+use font_variations_proved::evaluator::{Setting, read_setting, segment_map};
 use font_variations_proved::instances::{StoreInstance, region_count};
 use font_variations_proved::maps::{DeltaSetIndex, read_delta_set_index};
 use font_variations_proved::regions::region_scalar;
 use fonts::{MAP, MAPS, at_the_limits, font, font_of, fvar, hvar, hvar_of_two_axes};
 use fonts::{long_axes, of_five_axes, two_axes, variations, words};
 use instance::{advance, all_advances, axes, metrics, normalized, segment_maps};
+use std::error::Error;
 use std::fs;
 use std::path::{Path, PathBuf};
 
@@ -359,6 +360,13 @@ fn program_instance() {
         let found = instance_of(&one, &format!("wght=650 {word}"));
         assert_eq!(found, (String::new(), format!("{word}: {error}")));
     }
+}
+
+// As in a `main` that ends with the error.
+#[test]
+fn error_of_a_setting() {
+    let read = |text| -> Result<Setting, Box<dyn Error>> { Ok(read_setting(text)?) };
+    assert_eq!(read("wght").unwrap_err().to_string(), "no `=`");
 }
 
 // Of the sets, the second takes 1000 from an advance, at the peak of its region; the map gives it to

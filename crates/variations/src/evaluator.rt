@@ -16,6 +16,7 @@ ghost use Rattle.variations.specs.Evaluator.{IsMappedIn, IsMapped, IsFinal, IsSt
 ghost use Rattle.variations.specs.Evaluator.{map_offset};
 
 use font_types::{DecimalFault, F2Dot14, Fixed, InvalidTag, NameId, Scalar, Tag};
+use thiserror::Error;
 
 // ---- settings
 
@@ -29,13 +30,16 @@ pub struct Setting {
 }
 
 /// Why a text is not a setting.
-#[derive(Clone, PartialEq, Debug, Drop)]
+#[derive(Clone, PartialEq, Debug, Drop, Error)]
 pub enum SettingError {
     /// It has no `=`.
+    #[error("no `=`")]
     NoValue,
     /// The part before the `=` is not a tag.
+    #[error("{0}")]
     Axis(InvalidTag),
     /// The part after it is not a decimal number in range.
+    #[error("{0}")]
     Value(DecimalFault),
 }
 

@@ -61,6 +61,18 @@ pub enum SettingError {
     Value(DecimalFault),
 }
 
+impl core::error::Error for SettingError {}
+
+impl core::fmt::Display for SettingError {
+    fn fmt(&self, f: &mut core::fmt::Formatter<'_>) -> core::fmt::Result {
+        match self {
+            Self::NoValue => write!(f, "no `=`"),
+            Self::Axis(field_0, ..) => write!(f, "{field_0}"),
+            Self::Value(field_0, ..) => write!(f, "{field_0}"),
+        }
+    }
+}
+
 impl Copy for SettingError {}
 
 // Splits a text at its first `=`.
