@@ -78,8 +78,8 @@ pub(crate) fn data_of(store: &[u8], set: DeltaSetIndex) -> Option<(&[u8], &[u8],
 /// not change the advance. Returns `None` if the store does not have the set, or the result is out
 /// of range.
 ///
-/// The time is that of [`set_sum`](crate::delta_sets::set_sum), which an untrusted font can make
-/// long: for such a font, and for many glyphs, use
+/// The time is that of all axes times all columns of the set, as of
+/// [`set_sum`](crate::delta_sets::set_sum): for an untrusted font, and for many glyphs, use
 /// [`StoreInstance`](crate::instances::StoreInstance).
 #[must_use]
 pub fn varied_by(

@@ -174,8 +174,9 @@ fn term_in(
 /// Returns the exact sum of the deltas of a set, each times the scalar of its region, or `None` if
 /// the subtable does not have the set or the list not all its regions.
 ///
-/// For each column of the set, all axes of its region are walked, whatever the number of
-/// coordinates. A font of 400 kB can have 65,535 axes and 1,000 columns.
+/// The time is that of all axes times all columns of the set, whatever the number of coordinates,
+/// and an `HVAR` of 400 kB can have 33,000 axes and 65,000 columns. For an untrusted font, and for
+/// many glyphs, use [`StoreInstance`](crate::instances::StoreInstance).
 #[must_use]
 #[tactic(auto, using(font_types::proofs::Callers::calls, crate::proofs::Stores::sum_rules))]
 pub fn set_sum(
@@ -208,6 +209,9 @@ pub fn set_sum(
 
 /// Adds the sum of a delta set at these coordinates to an advance and rounds once, half up, or
 /// returns `None` if the set is not there or the result is out of range.
+///
+/// The time is that of all axes times all columns of the set, as of [`set_sum`]: for an untrusted
+/// font, and for many glyphs, use [`StoreInstance`](crate::instances::StoreInstance).
 #[must_use]
 pub fn vary_advance(
     advance: UfWord,

@@ -35,6 +35,11 @@ pub fn region_count(store: &[u8]) -> Option<u16>
 ///
 /// `new` walks each axis of each region once. Its time is linear in the bytes of the store and the
 /// number of its regions, which is at most 32,767. After that a delta of a set takes one product.
+///
+/// So the advances of all glyphs take at most as many products as the number of glyphs times the
+/// greatest number of columns. The columns of a set are fewer than a third of the bytes of the
+/// store, but an untrusted `HVAR` of 200 kB can give 65,535 glyphs one set of 65,535 columns. To
+/// bound the time, limit the length of the store, or how many glyphs you vary.
 #[derive(Clone, Copy, Debug)]
 pub struct StoreInstance<'a> {
     store: &'a [u8],
