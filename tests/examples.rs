@@ -591,8 +591,19 @@ fn variations_that_are_refused() {
         assert_eq!(varied_by(advance, store, set, &peak), varied);
         assert_eq!(instance.varied(advance, set), varied);
     }
-    // No room for the scalar of the region.
-    assert!(StoreInstance::new(store, &peak, &mut []).is_none());
+    // No room for the scalar of the second region, and a store of format 2: nothing is written.
+    let mut of_two = store.to_vec();
+    of_two[15] = 2;
+    let of_format_2 = [&[0, 2][..], &of_two[2..]].concat();
+    for (store, room) in [(&of_two, 1), (&of_format_2, 4)] {
+        let mut scalars = vec![Fixed::MIN; room];
+        assert!(StoreInstance::new(store, &peak, &mut scalars).is_none(), "{store:?}");
+        assert_eq!(scalars, vec![Fixed::MIN; room], "{store:?}");
+    }
+    // What is behind the last region is as before.
+    let mut scalars = [Fixed::MIN; 3];
+    assert!(StoreInstance::new(&of_two, &peak, &mut scalars).is_some());
+    assert_eq!(scalars[2..], [Fixed::MIN]);
     // Seven subtables, whose offsets would end after the store.
     let mut of_seven = store.to_vec();
     of_seven[7] = 7;

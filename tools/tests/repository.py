@@ -40,8 +40,8 @@ COUNTS = [
     ("tests/", ".rs", "return;", 0),
     ("tests/", ".rs", "/*", 0),
     ("crates/", ".rt", "\nmod ", 112),
-    ("crates/", ".edit", "# clause: ", 289),
-    ("crates/", ".edit", "# control: ", 74),
+    ("crates/", ".edit", "# clause: ", 292),
+    ("crates/", ".edit", "# control: ", 75),
     ("crates/fontval/", "stdin", "\n", 213),
     ("c/tests/", ".sh", "\n", 360),
 ]

@@ -44,13 +44,17 @@ data_count store = numeral (take 2 (drop 6 store))
 abbrev pub data_place : ℕ → ℕ
 data_place outer = 8 + 4 * outer
 
--- the store is of format 1 and has all offsets of its header, those of the regions and of the subtable point into it,
--- and the inner index has the 16 bits of one
-pub record HasData (store : List ℕ) (outer inner : ℕ) : Type 0 where
+-- the store is of format 1, and has a list of regions
+pub record HasRegionList (store : List ℕ) : Type 0 where
   pub format : numeral (take 2 store) ≡ 1
+  pub list : HasTarget store 2
+
+-- the store has its list of regions and all offsets of its header, that of the subtable points into it, and the inner
+-- index has the 16 bits of one
+pub record HasData (store : List ℕ) (outer inner : ℕ) : Type 0 where
+  pub regions : HasRegionList store
   pub header : data_place (data_count store) ≤ length store
   pub is_data : outer < data_count store
-  pub regions : HasTarget store 2
   pub subtable : HasTarget store (data_place outer)
   pub narrow : inner < 65536
 

@@ -1,10 +1,12 @@
 //! Item variation stores at the coordinates of an instance.
 
 ghost use Rattle.std.specs.Prelude.{ℕ, ◌≡◌, ◌↔◌, ◌⊎◌, ◌+◌, ◌*◌, ◌<◌, ◌≤◌, ◌^◌, pos, ◌≤ℤ◌, Some};
-ghost use Rattle.std.specs.Prelude.{IsSome, IfSome, MatchOption, length, take, drop, unsigned_abs};
+ghost use Rattle.std.specs.Prelude.{IsSome, IfSome, IfNone, MatchOption, length, take, drop};
+ghost use Rattle.std.specs.Prelude.{unsigned_abs};
 ghost use Rattle.font_types.specs.Fixed;
 ghost use Rattle.font_types.specs.{Fixed.fixed_bits, F48Dot16.f48dot16_bits, FWord.ufword_number};
-ghost use Rattle.variations.specs.Advances.{HasTarget, HasData, regions_of, subtable_of};
+ghost use Rattle.variations.specs.Advances.{HasTarget, HasRegionList, HasData};
+ghost use Rattle.variations.specs.Advances.{regions_of, subtable_of};
 ghost use Rattle.variations.specs.Variations.{HasRegion, IsRegionScalar, HasRow, row_bytes};
 ghost use Rattle.variations.specs.Variations.{word_delta_count, region_index_count, IsNoVariation};
 ghost use Rattle.variations.specs.Variations.{HasNoVaried, HasSet, IsVaried, HasTerm, IsTerm};
@@ -30,6 +32,25 @@ pub fn region_count(store: &[u8]) -> Option<u16>
     u16::read_at(at_offset(store, 2)?, 2)
 }
 
+// Writes the scalars of the regions of a store to the first places of `scalars`, and returns their
+// number. For `StoreInstance::new`, whose contract cannot name what its buffer becomes, because the
+// instance keeps it.
+fn write_scalars(store: &[u8], coordinates: &[F2Dot14], scalars: &mut [Fixed]) -> Option<usize>
+    ensures variant { IsSome result ↔ (HasRegionList store.now
+        × (¬ HasRegion (regions_of store.now) (length scalars.old))) }
+    ensures len { length scalars.new ≡ length scalars.old }
+    ensures kept { IfNone result (scalars.new ≡ scalars.old) }
+    ensures within { IfSome result (λ count. count ≤ length scalars.old) }
+    ensures value { IfSome result (λ count.
+        AreScalars (regions_of store.now) coordinates.now (take count scalars.new)) }
+    ensures rest { IfSome result (λ count. drop count scalars.new ≡ drop count scalars.old) }
+{
+    if u16::read_at(store, 0)? != 1 {
+        return None;
+    }
+    region_scalars(at_offset(store, 2)?, coordinates, scalars)
+}
+
 /// An item variation store at the coordinates of an instance, with the scalar of each region. It
 /// answers as [`varied_by`](crate::advances::varied_by) does at these coordinates.
 ///
@@ -49,22 +70,22 @@ pub struct StoreInstance<'a> {
 }
 
 impl<'a> StoreInstance<'a> {
-    /// Computes the scalars of all regions of a store into `scalars`. Returns `None` if the store
-    /// has no list of regions, or more regions than `scalars` holds.
+    /// Computes the scalars of all regions of a store into the first places of `scalars`, and keeps
+    /// the rest. Returns `None` if the store is not of format 1, if it has no list of regions, or if
+    /// it has more regions than `scalars` holds; then `scalars` is as before.
     #[must_use]
     pub fn new(
         store: &'a [u8],
         coordinates: &'a [F2Dot14],
         scalars: &'a mut [Fixed],
     ) -> Option<StoreInstance<'a>>
-        ensures variant { IsSome result ↔ (HasTarget store.now 2
+        ensures variant { IsSome result ↔ (HasRegionList store.now
             × (¬ HasRegion (regions_of store.now) (length scalars.old))) }
         ensures store { IfSome result (λ instance. instance.store.now ≡ store.now) }
         ensures coordinates { IfSome result (λ instance.
             instance.coordinates.now ≡ coordinates.now) }
     {
-        let regions = at_offset(store, 2)?;
-        let count = region_scalars(regions, coordinates, scalars)?;
+        let count = write_scalars(store, coordinates, scalars)?;
         let scalars: &'a [Fixed] = scalars;
         let scalars = scalars.get(..count)?;
         Some(StoreInstance {

@@ -1,7 +1,7 @@
 //! Variation regions: the scalar of each axis, and of a region.
 
 ghost use Rattle.std.specs.Prelude.{◌≡◌, ◌≢◌, ◌↔◌, ◌≤◌, ◌+◌, ◌*◌, pos, ◌≤ℤ◌, ◌<ℤ◌, ◌-ℤ◌, ◌*ℤ◌};
-ghost use Rattle.std.specs.Prelude.{IsTrue, IsSome, IfSome, length, IfNone, take};
+ghost use Rattle.std.specs.Prelude.{IsTrue, IsSome, IfSome, IfNone, length, take, drop};
 ghost use Rattle.font_types.specs.Operations.{IsMulDiv};
 ghost use Rattle.font_types.specs.Fixed;
 ghost use Rattle.font_types.specs.{Fixed.fixed_bits, F2Dot14.f2dot14_bits};
@@ -212,8 +212,19 @@ pub fn region_scalar(regions: &[u8], region: u16, coordinates: &[F2Dot14]) -> Op
     Some(product_of_scalars(region, axes, coordinates))
 }
 
+// Returns whether the list has more regions than `scalars`.
+fn has_more(regions: &[u8], scalars: usize) -> bool
+    ensures { IsTrue result ↔ HasRegion regions.now scalars }
+{
+    match u16::try_from(scalars) {
+        Ok(region) => find_region(regions, region).is_some(),
+        Err(_) => false,
+    }
+}
+
 /// Writes the scalar of each region of a list, in order, and returns how many regions it has, those
-/// that it ends before left out. Returns `None` if there are more of them than `scalars`.
+/// that it ends before left out. If there are more of them than `scalars`, returns `None`, and
+/// writes nothing.
 #[tactic(auto, using(font_types::proofs::Callers::calls, crate::proofs::Stores::row_rules))]
 pub(crate) fn region_scalars(
     regions: &[u8],
@@ -221,20 +232,21 @@ pub(crate) fn region_scalars(
     scalars: &mut [Fixed],
 ) -> Option<usize>
     ensures len { length scalars.new ≡ length scalars.old }
-    ensures variant { IfNone result (HasRegion regions.now (length scalars.old)) }
+    ensures variant { IsSome result ↔ (¬ HasRegion regions.now (length scalars.old)) }
+    ensures kept { IfNone result (scalars.new ≡ scalars.old) }
     ensures within { IfSome result (λ count. count ≤ length scalars.old) }
     ensures value { IfSome result (λ count.
         AreScalars regions.now coordinates.now (take count scalars.new)) }
+    ensures rest { IfSome result (λ count. drop count scalars.new ≡ drop count scalars.old) }
 {
+    if has_more(regions, scalars.len()) {
+        return None;
+    }
     for region in 0..0x7FFF {
         let Some(scalar) = region_scalar(regions, region, coordinates) else {
             return Some(usize::from(region));
         };
-        let place = usize::from(region);
-        if place >= scalars.len() {
-            return None;
-        }
-        scalars[place] = scalar;
+        scalars[usize::from(region)] = scalar;
     }
     Some(0x7FFF)
 }

@@ -727,7 +727,7 @@ pub mod font_ids {
 pub mod variations {
     /// Tables HVAR and item variation stores, from offset to offset.
     ///
-    /// In the order of `crates/variations/specs/Advances.antt`: [`offset_at`](mod@Advances::offset_at), [`HasTarget`](mod@Advances::HasTarget), [`target_of`](mod@Advances::target_of), [`HasGlyphSet`](mod@Advances::HasGlyphSet), [`outer_index`](mod@Advances::outer_index), [`inner_index`](mod@Advances::inner_index), [`data_count`](mod@Advances::data_count), [`data_place`](mod@Advances::data_place), [`HasData`](mod@Advances::HasData), [`regions_of`](mod@Advances::regions_of), [`subtable_of`](mod@Advances::subtable_of).
+    /// In the order of `crates/variations/specs/Advances.antt`: [`offset_at`](mod@Advances::offset_at), [`HasTarget`](mod@Advances::HasTarget), [`target_of`](mod@Advances::target_of), [`HasGlyphSet`](mod@Advances::HasGlyphSet), [`outer_index`](mod@Advances::outer_index), [`inner_index`](mod@Advances::inner_index), [`data_count`](mod@Advances::data_count), [`data_place`](mod@Advances::data_place), [`HasRegionList`](mod@Advances::HasRegionList), [`HasData`](mod@Advances::HasData), [`regions_of`](mod@Advances::regions_of), [`subtable_of`](mod@Advances::subtable_of).
     pub mod Advances {
         use crate::definitions::font_base::Bytes::numeral;
         use crate::definitions::variations::Variations::HasEntry;
@@ -814,23 +814,32 @@ pub mod variations {
         /// ```
         pub mod data_place {}
 
-        /// the store is of format 1 and has all offsets of its header, those of the regions and of the subtable point into it,
-        /// and the inner index has the 16 bits of one
+        /// the store is of format 1, and has a list of regions
+        ///
+        /// ```text
+        /// record HasRegionList (store : List ℕ) : Type 0 where
+        ///   format : numeral (take 2 store) ≡ 1
+        ///   list : HasTarget store 2
+        /// ```
+        /// [`numeral`], [`HasTarget`]
+        pub mod HasRegionList {}
+
+        /// the store has its list of regions and all offsets of its header, that of the subtable points into it, and the inner
+        /// index has the 16 bits of one
         ///
         /// ```text
         /// record HasData (store : List ℕ) (outer inner : ℕ) : Type 0 where
-        ///   format : numeral (take 2 store) ≡ 1
+        ///   regions : HasRegionList store
         ///   header : data_place (data_count store) ≤ length store
         ///   is_data : outer < data_count store
-        ///   regions : HasTarget store 2
         ///   subtable : HasTarget store (data_place outer)
         ///   narrow : inner < 65536
         /// ```
-        /// [`numeral`], [`data_place`], [`data_count`], [`HasTarget`]
+        /// [`HasRegionList`], [`data_place`], [`data_count`], [`HasTarget`]
         pub mod HasData {}
 
-        /// the store is of format 1 and has all offsets of its header, those of the regions and of the subtable point into it,
-        /// and the inner index has the 16 bits of one
+        /// the store has its list of regions and all offsets of its header, that of the subtable points into it, and the inner
+        /// index has the 16 bits of one
         ///
         /// ```text
         /// abbrev regions_of : List ℕ → List ℕ
@@ -839,8 +848,8 @@ pub mod variations {
         /// [`target_of`]
         pub mod regions_of {}
 
-        /// the store is of format 1 and has all offsets of its header, those of the regions and of the subtable point into it,
-        /// and the inner index has the 16 bits of one
+        /// the store has its list of regions and all offsets of its header, that of the subtable points into it, and the inner
+        /// index has the 16 bits of one
         ///
         /// ```text
         /// abbrev subtable_of : List ℕ → ℕ → List ℕ

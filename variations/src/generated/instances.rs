@@ -11,6 +11,8 @@ use crate::definitions::font_ids::FWord::ufword_number;
 #[cfg(doc)]
 use crate::definitions::variations::Advances::HasData;
 #[cfg(doc)]
+use crate::definitions::variations::Advances::HasRegionList;
+#[cfg(doc)]
 use crate::definitions::variations::Advances::HasTarget;
 #[cfg(doc)]
 use crate::definitions::variations::Advances::regions_of;
@@ -64,6 +66,16 @@ pub fn region_count(store: &[u8]) -> Option<u16> {
     u16::read_at(at_offset(store, 2)?, 2)
 }
 
+// Writes the scalars of the regions of a store to the first places of `scalars`, and returns their
+// number. For `StoreInstance::new`, whose contract cannot name what its buffer becomes, because the
+// instance keeps it.
+fn write_scalars(store: &[u8], coordinates: &[F2Dot14], scalars: &mut [Fixed]) -> Option<usize> {
+    if u16::read_at(store, 0)? != 1 {
+        return None;
+    }
+    region_scalars(at_offset(store, 2)?, coordinates, scalars)
+}
+
 /// An item variation store at the coordinates of an instance, with the scalar of each region. It
 /// answers as [`varied_by`](crate::advances::varied_by) does at these coordinates.
 ///
@@ -92,19 +104,20 @@ pub struct StoreInstance<'a> {
 }
 
 impl<'a> StoreInstance<'a> {
-    /// Computes the scalars of all regions of a store into `scalars`. Returns `None` if the store
-    /// has no list of regions, or more regions than `scalars` holds.
+    /// Computes the scalars of all regions of a store into the first places of `scalars`, and keeps
+    /// the rest. Returns `None` if the store is not of format 1, if it has no list of regions, or if
+    /// it has more regions than `scalars` holds; then `scalars` is as before.
     ///
     /// <details><summary>Contract</summary>
     ///
     /// ```text
-    /// ensures variant { IsSome result ↔ (HasTarget store.now 2
+    /// ensures variant { IsSome result ↔ (HasRegionList store.now
     ///     × (¬ HasRegion (regions_of store.now) (length scalars.old))) }
     /// ensures store { IfSome result (λ instance. instance.store.now ≡ store.now) }
     /// ensures coordinates { IfSome result (λ instance.
     ///     instance.coordinates.now ≡ coordinates.now) }
     /// ```
-    /// [Notation](crate::definitions): [`HasTarget`], [`HasRegion`], [`regions_of`]
+    /// [Notation](crate::definitions): [`HasRegionList`], [`HasRegion`], [`regions_of`]
     /// </details>
     #[must_use]
     pub fn new(
@@ -112,8 +125,7 @@ impl<'a> StoreInstance<'a> {
         coordinates: &'a [F2Dot14],
         scalars: &'a mut [Fixed],
     ) -> Option<StoreInstance<'a>> {
-        let regions = at_offset(store, 2)?;
-        let count = region_scalars(regions, coordinates, scalars)?;
+        let count = write_scalars(store, coordinates, scalars)?;
         let scalars: &'a [Fixed] = scalars;
         let scalars = scalars.get(..count)?;
         Some(StoreInstance { store, coordinates, scalars })

@@ -171,17 +171,28 @@ pub fn region_scalar(regions: &[u8], region: u16, coordinates: &[F2Dot14]) -> Op
     Some(product_of_scalars(region, axes, coordinates))
 }
 
+// Returns whether the list has more regions than `scalars`.
+fn has_more(regions: &[u8], scalars: usize) -> bool {
+    match u16::try_from(scalars) {
+        Ok(region) => find_region(regions, region).is_some(),
+        Err(_) => false,
+    }
+}
+
 /// Writes the scalar of each region of a list, in order, and returns how many regions it has, those
-/// that it ends before left out. Returns `None` if there are more of them than `scalars`.
+/// that it ends before left out. If there are more of them than `scalars`, returns `None`, and
+/// writes nothing.
 ///
 /// <details><summary>Contract</summary>
 ///
 /// ```text
 /// ensures len { length scalars.new ≡ length scalars.old }
-/// ensures variant { IfNone result (HasRegion regions.now (length scalars.old)) }
+/// ensures variant { IsSome result ↔ (¬ HasRegion regions.now (length scalars.old)) }
+/// ensures kept { IfNone result (scalars.new ≡ scalars.old) }
 /// ensures within { IfSome result (λ count. count ≤ length scalars.old) }
 /// ensures value { IfSome result (λ count.
 ///     AreScalars regions.now coordinates.now (take count scalars.new)) }
+/// ensures rest { IfSome result (λ count. drop count scalars.new ≡ drop count scalars.old) }
 /// ```
 /// [Notation](crate::definitions): [`HasRegion`], [`AreScalars`]
 /// </details>
@@ -190,15 +201,14 @@ pub(crate) fn region_scalars(
     coordinates: &[F2Dot14],
     scalars: &mut [Fixed],
 ) -> Option<usize> {
+    if has_more(regions, scalars.len()) {
+        return None;
+    }
     for region in 0..0x7FFF {
         let Some(scalar) = region_scalar(regions, region, coordinates) else {
             return Some(usize::from(region));
         };
-        let place = usize::from(region);
-        if place >= scalars.len() {
-            return None;
-        }
-        scalars[place] = scalar;
+        scalars[usize::from(region)] = scalar;
     }
     Some(0x7FFF)
 }

@@ -13,7 +13,7 @@ returns-in_default-clause-value c =
     let so_far = c.loop-region.invariant in
     let last : ¬ HasRegion c.args.regions.now c.loop-region.region = search (rules, calls) in
     are_scalars c.args.regions.now c.args.coordinates.now c.loop-region.region c.from.result c.loop-region.scalars
-    c.from.ensures so_far.1 so_far.2 so_far.3 so_far.4 so_far.5 last
+    c.from.ensures so_far.1 so_far.3 so_far.4 so_far.5 so_far.6 last
 
 pub returns-clause-value : goal.returns-clause-value
 returns-clause-value c =
@@ -22,4 +22,9 @@ returns-clause-value c =
     let last : ¬ HasRegion c.args.regions.now c.loop-region.region =
     λ has. omega (arith, is, has.count, has.within) in
     are_scalars c.args.regions.now c.args.coordinates.now c.loop-region.region 0x7FFF c.loop-region.scalars
-    is so_far.1 so_far.2 so_far.3 so_far.4 so_far.5 last
+    is so_far.1 so_far.3 so_far.4 so_far.5 so_far.6 last
+
+pub returns-clause-rest : goal.returns-clause-rest
+returns-clause-rest c =
+    let is : 0x7FFF ≡ c.loop-region.region = omega arith in
+    rw is c.loop-region.invariant.2
