@@ -11,9 +11,9 @@ use std::ops::{Add, AddAssign, Div, DivAssign, Mul, MulAssign, Neg, Sub, SubAssi
 /// A two-dimensional point.
 ///
 /// Each operator applies that of the coordinates. So over fixed-point numbers a sum wraps on
-/// overflow, and a product or a quotient is rounded and wraps. Over those of 32 bits `checked_add`
-/// and `checked_sub` return `None` in place of a wrapped sum or difference. Over std's integers an overflow panics in a debug build and wraps in a
-/// release build, and a division by zero panics.
+/// overflow, and a product or a quotient is rounded and wraps. Over those of 32 bits, `checked_add`
+/// and `checked_sub` return `None` in place of a wrapped sum or difference. Over std's integers, an
+/// overflow panics in a debug build and wraps in a release build, and a division by zero panics.
 ///
 /// ```
 /// use font_types::Point;
