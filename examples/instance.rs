@@ -98,8 +98,8 @@ pub fn advance(
     }
 }
 
-/// Returns the advances of all glyphs at these coordinates, by `HVAR`: none for a glyph whose set is
-/// not there or whose advance is out of range. The scalar of each region is computed once.
+/// Returns the advances of all glyphs at these coordinates, by `HVAR`: none for a glyph whose set
+/// is not there or whose advance is out of range. The scalar of each region is computed once.
 pub fn all_advances(font: &Font<'_>, coordinates: &[F2Dot14]) -> Option<Vec<Option<UfWord>>> {
     let hvar = of_version(font, b"HVAR", 1).ok()??;
     let (store, _) = store_and_set(hvar, GlyphId16::new(0))?;

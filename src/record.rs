@@ -100,8 +100,8 @@ impl<T: Scalar> RecordField for T {
 
 /// Implements [`FixedSize`](crate::FixedSize), [`Scalar`](crate::Scalar) and
 /// [`TableHeader`](crate::TableHeader) for a struct whose fields, stored one after another, are
-/// scalars, arrays of scalars, and other records. The struct has named fields, and neither lifetimes
-/// nor other parameters.
+/// scalars, arrays of scalars, and other records. The struct has named fields, and neither
+/// lifetimes nor other parameters.
 ///
 /// ```
 /// use font_types_proved::{FWord, ScalarArray, UfWord, record};

@@ -1,6 +1,6 @@
 //! Definitions for which no test of Rattle has values and `font-types` has no call: against exact
-//! arithmetic and std, and over elements of a caller. Of functions that `tools/smt` proves, a row or
-//! two.
+//! arithmetic and std, and over elements of a caller. Of functions that `tools/smt` proves, a row
+//! or two.
 
 mod exact;
 
@@ -67,7 +67,7 @@ fn factors() -> impl Iterator<Item = i32> {
     factors.into_iter().flat_map(|n| [n, -n, !n])
 }
 
-/// For each call, its result at the end of what fits, and beside that: `tools/smt` proves the others.
+/// For each call, its result at the end of what fits, and beside that.
 #[test]
 fn ends_of_checked_calls() {
     let (f, g, h, k, m) = (

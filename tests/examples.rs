@@ -369,8 +369,8 @@ fn error_of_a_setting() {
     assert_eq!(read("wght").unwrap_err().to_string(), "no `=`");
 }
 
-// Of the sets, the second takes 1000 from an advance, at the peak of its region; the map gives it to
-// glyph 1 alone.
+// Of the sets, the second takes 1000 from an advance, at the peak of its region; the map gives it
+// to glyph 1 alone.
 #[test]
 fn program_instance_of_all_glyphs() {
     let mut hvar = words(&variations(60, &[2, 1, 1, 0, 40, -1000_i16 as u16]));

@@ -2463,9 +2463,9 @@ pub mod font_geom {
         pub mod RingLaws {}
     }
 
-    /// Scales of outlines: 16.16 numbers of pixels in 26.6 for each font unit, over their raw values (FreeType: FT_Size_Metrics,
-    /// "x_scale: a 16.16 fractional scaling value used to convert horizontal metrics from font units to 26.6 fractional
-    /// pixels").
+    /// Scales of outlines: 16.16 numbers of pixels in 26.6 for each font unit, over their raw values (FreeType:
+    /// FT_Size_Metrics, "x_scale: a 16.16 fractional scaling value used to convert horizontal metrics from font units to
+    /// 26.6 fractional pixels").
     ///
     /// In the order of `crates/font_geom/specs/Scale.antt`: [`scale_bits`](mod@Scale::scale_bits), [`factor_of`](mod@Scale::factor_of), [`IsCloseScaled`](mod@Scale::IsCloseScaled).
     pub mod Scale {

@@ -164,8 +164,8 @@ class Pages(unittest.TestCase):
         _, table = text("src/guide.md").split("| FreeType, fontTools | Here |\n|---|---|\n")
         rows = [row.split(" | ", 1) for row in table.split("\n\n")[0].splitlines()]
         cells = {name: here for there, here in rows for name in re.findall(r"`(\w+)`", there)}
-        form = re.compile(r'((?:#\[doc\(alias = "\w+"\)\]\s+)+)(?:#\[.*\]\s+)*pub [^({]*?(\w+)[<({]')
-        found = form.findall("".join(text(path) for path in of(GENERATED, ".rs")))
+        form = r'((?:#\[doc\(alias = "\w+"\)\]\s+)+)(?:#\[.*\]\s+)*pub [^({]*?(\w+)[<({]'
+        found = re.findall(form, "".join(text(path) for path in of(GENERATED, ".rs")))
         aliases = [(it, name) for list, name in found for it in re.findall('"(.*)"', list)]
         self.assertEqual({alias for alias, _ in aliases}, cells.keys())
         for alias, name in aliases:

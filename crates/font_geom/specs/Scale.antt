@@ -1,6 +1,6 @@
--- Scales of outlines: 16.16 numbers of pixels in 26.6 for each font unit, over their raw values (FreeType: FT_Size_Metrics,
--- "x_scale: a 16.16 fractional scaling value used to convert horizontal metrics from font units to 26.6 fractional
--- pixels").
+-- Scales of outlines: 16.16 numbers of pixels in 26.6 for each font unit, over their raw values (FreeType:
+-- FT_Size_Metrics, "x_scale: a 16.16 fractional scaling value used to convert horizontal metrics from font units to
+-- 26.6 fractional pixels").
 use Rattle.std.specs.Prelude.{ℕ, ◌+◌, ◌*◌, ◌^◌, ◌≤◌, ℤ, pos, ◌-ℤ◌, ◌*ℤ◌, unsigned_abs}
 use Rattle.font_decimal.specs.Near.{near}
 use Rattle.font_fixed.specs.Fixed.{fixed_bits}

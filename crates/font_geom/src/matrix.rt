@@ -202,7 +202,8 @@ impl Matrix<Fixed> {
     ///
     /// ```
     /// use font_types::{F26Dot6, Fixed, Matrix, Point};
-    /// let matrix = Matrix { xx: Fixed::lit("0.5"), dx: Fixed::from_bits(64), ..Matrix::identity() };
+    /// let (xx, dx) = (Fixed::lit("0.5"), Fixed::from_bits(64));
+    /// let matrix = Matrix { xx, dx, ..Matrix::identity() };
     /// let pixels = Point::new(F26Dot6::from_i32(10), F26Dot6::ZERO);
     /// let moved = Point::new(F26Dot6::from_i32(6), F26Dot6::ZERO);
     /// assert_eq!(matrix.checked_image(pixels), Some(moved));

@@ -28,8 +28,8 @@ use font_fixed::{F26Dot6, Fixed, product};
 pub struct Scale(Fixed);
 
 impl Scale {
-    /// Creates the scale of a size, in pixels per em, or returns `None` if `units_per_em` is zero or
-    /// the factor overflows. The factor is the quotient of the raw values in 16.16, rounded half
+    /// Creates the scale of a size, in pixels per em, or returns `None` if `units_per_em` is zero
+    /// or the factor overflows. The factor is the quotient of the raw values in 16.16, rounded half
     /// away from zero.
     pub const fn new(size: F26Dot6, units_per_em: u16) -> Option<Self>
         ensures variant { IsSome result ↔ ((units_per_em ≢ 0)

@@ -41,8 +41,8 @@ use crate::font_geom::Point;
 pub struct Scale(Fixed);
 
 impl Scale {
-    /// Creates the scale of a size, in pixels per em, or returns `None` if `units_per_em` is zero or
-    /// the factor overflows. The factor is the quotient of the raw values in 16.16, rounded half
+    /// Creates the scale of a size, in pixels per em, or returns `None` if `units_per_em` is zero
+    /// or the factor overflows. The factor is the quotient of the raw values in 16.16, rounded half
     /// away from zero.
     ///
     /// <details><summary>Contract</summary>

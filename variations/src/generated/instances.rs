@@ -105,8 +105,8 @@ pub struct StoreInstance<'a> {
 
 impl<'a> StoreInstance<'a> {
     /// Computes the scalars of all regions of a store into the first places of `scalars`, and keeps
-    /// the rest. Returns `None` if the store is not of format 1, if it has no list of regions, or if
-    /// it has more regions than `scalars` holds; then `scalars` is as before.
+    /// the rest. Returns `None` if the store is not of format 1, if it has no list of regions, or
+    /// if it has more regions than `scalars` holds; then `scalars` is as before.
     ///
     /// <details><summary>Contract</summary>
     ///
