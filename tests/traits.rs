@@ -321,3 +321,27 @@ fn decoded_elements() {
         (Some(Counted(200)), Some(Counted(255)), 2)
     );
 }
+
+/// A user's traits with methods that the library's have too: a call names its trait.
+trait Taken: Scalar {
+    fn take_from(bytes: &mut &[u8]) -> Self {
+        <Self as Scalar>::take_from(bytes).unwrap()
+    }
+}
+
+trait Resolved: OffsetValue {
+    fn resolve(self, table: &[u8]) -> usize {
+        OffsetValue::resolve(self, table).map_or(0, <[u8]>::len)
+    }
+}
+
+impl<T: Scalar> Taken for T {}
+impl<T: OffsetValue> Resolved for T {}
+
+#[test]
+fn methods_of_two_traits() {
+    let mut bytes = &[0, 3, 9][..];
+    assert_eq!(<Offset16 as Taken>::take_from(&mut bytes), Offset16::new(3));
+    assert_eq!(Resolved::resolve(Offset16::new(3), &[0; 10]), 7);
+    assert_eq!(OffsetValue::resolve(Offset16::new(0), bytes), None);
+}
