@@ -17,6 +17,7 @@ import subprocess
 import sys
 from pathlib import Path
 
+import by_hand
 import declared
 import facts
 import kept
@@ -76,7 +77,8 @@ def run(root: Path, options: set[str]) -> int:
     copy = {} if is_left else kept.kept()
     crates = kept.left(ROOT, names) if is_left else copy["crates"]
     both = read(root, sources, crates)
-    faults = report(both, [*declared.faults(root, sources.files, sources.lines)])
+    declarations = declared.faults(root, sources.files, sources.lines)
+    faults = report(both, [*declarations, *by_hand.faults(root)])
     if "--mutants" in options and not faults:
         faults += mutants.report(root, both, crates)
     if "--proved" in options:

@@ -17,6 +17,7 @@ from typing import Any
 ROOT = pathlib.Path(__file__).resolve().parents[2]
 sys.path.append(str(ROOT / "tools/mir"))
 
+import by_hand
 import declared
 import rattle
 import rust
@@ -119,13 +120,34 @@ EDITS = [
     ("c/src/lib.rs", "src/generated/font_geom", "src/other/font_geom", "`path ="),
     ("c/src/lib.rs", "src/generated/font_geom", "src/generated/../font_geom", "`path ="),
     ("src/lib.rs", "[path =", "[cfg_attr(not(debug_assertions), path =", "`cfg_attr(`"),
+    ("src/lib.rs", "[path =", '[cfg_attr(not(feature = "std"), path =', "`cfg_attr(`"),
     ("src/lib.rs", "mod literal;", "macro_rules ! matches { () => {} }", "`macro_rules ! matches`"),
+    ("src/lib.rs", "mod literal;", "macro_rules! r#matches {}", "a raw name"),
+    ("src/host/mod.rs", "", "macro_rules! matches { () => {} }", "`macro_rules! matches`"),
     ("src/lib.rs", "mod literal;", "#[macro_use]\nmod literal;", "`macro_use`"),
     ("src/lib.rs", "mod literal;", "extern crate other as core;", "`extern crate`"),
     (FORMAT, 'extern "C" ', "", "other exports"),
     ("Cargo.toml", "[dev-", '[dependencies]\ncore = { path = "core" }\n[dev-', "builds otherwise"),
     ("Cargo.toml", "publish =", 'build = "src/make.rs"\npublish =', "builds otherwise"),
     ("variations/Cargo.toml", 'path = ".."', 'path = "vendor"', "builds otherwise"),
+    (
+        "src/traits.rs",
+        "pub fn iter(",
+        "pub fn to_raw(self) {}\n    pub fn iter(",
+        "no trait: `to_raw`",
+    ),
+    ("src/literal.rs", "    )*};", "    impl $Type<9> { fn read() {} } )*};", "no trait: `read`"),
+    ("src/literal.rs", "literal! {", "literal! { impl Tag { } ", "may write functions: `literal !"),
+    ("src/literal.rs", "literal! {", "other! { impl Tag {} }\nliteral! {", "functions: `other ! {"),
+    (
+        "src/record.rs",
+        "impl $crate::TableH",
+        "impl $Name { fn $x() {} }\nimpl $crate::TableH",
+        "`$`",
+    ),
+    ("src/lib.rs", "pub use font_t", "pub use traits::delta_sum;\npub use font_t", "hide another"),
+    ("src/lib.rs", "mod literal;", "mod literal;\npub mod laws {}", "what hides an export: `laws`"),
+    ("variations/src/lib.rs", "mod generated;", "mod generated;\nmod maps {}", "export: `maps`"),
 ]
 
 # Functions that are refused, not compared: they read through one of several locals or references,
@@ -158,7 +180,8 @@ def refusal(root: pathlib.Path) -> str:
     """Returns why the declarations in a copy of the repository are not those of the source."""
     try:
         sources = Sources(root)
-        return "\n".join(declared.faults(root, sources.files, sources.lines))
+        declarations = declared.faults(root, sources.files, sources.lines)
+        return "\n".join([*declarations, *by_hand.faults(root)])
     except ValueError as error:
         return str(error)
 
@@ -172,9 +195,11 @@ class Mir(unittest.TestCase):
                 shutil.copy(ROOT / name / "Cargo.toml", root / name)
             (root / "crates").symlink_to(ROOT / "crates")
             self.assertEqual(refusal(root), "")
+            (root / "src/host").mkdir()
+            (root / "src/host/mod.rs").touch()
             for name, old, new, word in EDITS:
                 right = (root / name).read_text()
-                (root / name).write_text(right.replace(old, new))
+                (root / name).write_text(right.replace(old, new) or new)
                 with self.subTest(new):
                     self.assertTrue(old in right, name)
                     self.assertIn(word, refusal(root))
