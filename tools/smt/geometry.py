@@ -1,0 +1,133 @@
+"""Rows of matrices, points and scales."""
+
+from typing import Any
+
+import z3
+
+from row import Rule, case, relation
+
+from rules import (
+    S, Products, checked, checked_scaled, fits, near, scaled, some, wrap,
+)  # fmt: skip
+
+# fmt: off
+# ---------------------------------------------------------------- matrices and points
+ENTRIES = "xx yx xy yy dx dy".split()
+entries = lambda of: ", ".join(f"{of}{it}: i32" for it in ENTRIES)
+matrix = lambda of: "Matrix::from_elements([{}])".format(
+    ", ".join(f"Fixed::from_bits({of}{it})" for it in ENTRIES))
+SPOTS = [f"Point::new(Fixed::from_bits({x}), Fixed::from_bits({y}))" for x, y in (
+    ("x", "y"), ("s", "t"))]
+PAIR = "((it.{}.to_bits() as u32 as u64) << 32) | it.{}.to_bits() as u32 as u64"
+BOTH, ROWS = PAIR.format("x", "y"), {"x": ("xx", "xy", "dx"), "y": ("yx", "yy", "dy")}
+FROM = "Fixed::from_bits(x), Fixed::from_bits(y)"
+
+
+def moved(p: Products, *v: Any) -> list[Any]:
+    """The coordinates of a point that a matrix moves: "a sum of rounded products"."""
+    m = dict(zip([*ENTRIES, "x", "y"], v))
+    return [near(p.times(m[s], m["x"]), 16) + near(p.times(m[t], m["y"]), 16) + S(m[plus])
+            for s, t, plus in ROWS.values()]
+
+
+def product(p: Products, *v: Any) -> dict[str, Any]:
+    """The entries of a product. The columns of b are moved, that of dx and dy as a point."""
+    columns = {it: moved(p, *v[:6], *v[6 + i : 8 + i]) for i, it in ((0, "x"), (2, "y"), (4, "d"))}
+    a = dict(zip(ENTRIES, v))
+    return {name: columns[name[1] if name[0] != "d" else "d"]["xy".index(
+        name[0] if name[0] != "d" else name[1])] - (S(a["d" + name[0]]) if name[0] != "d" else 0)
+            for name in ENTRIES}
+
+
+two = lambda x, y: z3.Concat(wrap(32, x), wrap(32, y))
+all_fit = lambda *n: z3.And([fits(32, it) for it in n])
+given = entries("a") + ", x: i32, y: i32"
+for i, axis in enumerate("xy"):
+    case(f"Matrix::transform, {axis}", given, "i32",
+         f"{matrix('a')}.transform({FROM}).{i}.to_bits()",
+         lambda p, *v, i=i: wrap(32, moved(p, *v)[i]))
+    case(f"Matrix * Point, {axis}", given, "i32", f"({matrix('a')} * {SPOTS[0]}).{axis}.to_bits()",
+         lambda p, *v, i=i: wrap(32, moved(p, *v)[i]))
+case("Matrix::checked_transform", given, "?u64",
+     f"{matrix('a')}.checked_transform({FROM}).map(|(x, y)| Point::new(x, y)).map(|it| {BOTH})",
+     lambda p, *v: some(all_fit(*moved(p, *v)), two(*moved(p, *v))))
+case("Matrix::checked_image", given, "?u64", f"{matrix('a')}.checked_image(Point::new("
+     f"F26Dot6::from_bits(x), F26Dot6::from_bits(y))).map(|it| {BOTH})",
+     lambda p, *v: some(all_fit(*moved(p, *v)), two(*moved(p, *v))))
+given = entries("a") + ", " + entries("b")
+for name in ENTRIES:
+    case(f"Matrix * Matrix, {name}", given, "i32",
+         f"({matrix('a')} * {matrix('b')}).{name}.to_bits()",
+         lambda p, *v, name=name: wrap(32, product(p, *v)[name]))
+for m, n in zip(ENTRIES[::2], ENTRIES[1::2]):
+    case(f"Matrix *=, {m} and {n}", given, "u64",
+         f"{{ let mut it = {matrix('a')}; it *= {matrix('b')}; {PAIR.format(m, n)} }}",
+         lambda p, *v, m=m, n=n: two(product(p, *v)[m], product(p, *v)[n]))
+    case(f"Matrix::checked_mul, {m} and {n}", given, "?u64",
+         f"{matrix('a')}.checked_mul({matrix('b')}).map(|it| {PAIR.format(m, n)})",
+         lambda p, *v, m=m, n=n: (lambda it: some(all_fit(*it.values()), two(it[m], it[n])))(
+             product(p, *v)))
+
+point = "Point::new(Fixed::from_bits(x), Fixed::from_bits(y))"
+for i, axis in enumerate("xy"):
+    # By the lemmas IMAGE and IN TURN, these are within the bounds, where all fits. `composed` is
+    # the rows of `Matrix * Matrix` and of `Matrix * Point` after each other, with COMPOSED.
+    case(f"laws::image, {axis}", entries("a") + ", x: i32, y: i32", "i32",
+         f"laws::image({matrix('a')}, {point}).{axis}.to_bits()",
+         lambda p, *v, i=i: wrap(32, moved(p, *v)[i]))
+    case(f"laws::in_turn, {axis}", given + ", x: i32, y: i32", "i32",
+         f"laws::in_turn({matrix('a')}, {matrix('b')}, {point}).{axis}.to_bits()",
+         lambda p, *v, i=i: wrap(32, moved(
+             p, *v[:6], *(wrap(32, it) for it in moved(p, *v[6:])))[i]))
+
+
+# ---------------------------------------------------------------- scales
+SCALE = "Scale::from_factor(Fixed::from_bits(s))"
+pixels = lambda p, x, s: near(p.times(x, s), 16)
+relation("Scale::new, factor", "x: i32, y: u16", "?i32",
+         "Scale::new(F26Dot6::from_bits(x), y).map(|it| it.factor().to_bits())",
+         lambda p, x, y, result: checked_scaled(
+             p, x, z3.BitVecVal(1 << 16, 32), z3.ZeroExt(16, y), result))
+case("Scale::from_factor", "s: i32", "i32", f"{SCALE}.factor().to_bits()", lambda p, s: s)
+relation("Scale::apply", "x: i16, s: i32", "i32", f"{SCALE}.apply(x).to_bits()",
+         lambda p, x, s, result: z3.And(
+             fits(32, pixels(p, x, s)), result == wrap(32, pixels(p, x, s))))
+case("Scale::checked_apply", "x: i32, s: i32", "?i32",
+     f"{SCALE}.checked_apply(x).map(F26Dot6::to_bits)",
+     lambda p, x, s: checked(32, pixels(p, x, s)))
+case("Scale::apply_point", "x: i16, y: i16, s: i32", "u64",
+     f"{{ let it = {SCALE}.apply_point(Point::new(x, y)); {BOTH} }}",
+     lambda p, x, y, s: two(pixels(p, x, s), pixels(p, y, s)))
+case("Scale::checked_apply_point", "x: i32, y: i32, s: i32", "?u64",
+     f"{SCALE}.checked_apply_point(Point::new(x, y)).map(|it| {BOTH})",
+     lambda p, x, y, s: some(all_fit(pixels(p, x, s), pixels(p, y, s)),
+                             two(pixels(p, x, s), pixels(p, y, s))))
+
+
+def of_points(sign: str, calc: Rule) -> None:
+    """"Operations of points work on each coordinate". A quotient is right if both halves are."""
+    both = lambda p, x, y, s, t, it: z3.And(
+        calc(p, x, s, z3.Extract(63, 32, it)), calc(p, y, t, z3.Extract(31, 0, it)))
+    for end, body in (("", "let it = {} {} {};"), ("=", "let mut it = {}; it {}= {};")):
+        rust = "{{ " + body + " {} }}"
+        relation(f"Point {sign}{end}" + " Point" * (not end),
+                 "x: i32, y: i32, s: i32, t: i32", "u64",
+                 rust.format(SPOTS[0], sign, SPOTS[1], BOTH), both)
+        if sign in "*/":
+            relation(f"Point {sign}{end} T", "x: i32, y: i32, s: i32", "u64",
+                     rust.format(SPOTS[0], sign, "Fixed::from_bits(s)", BOTH),
+                     lambda p, x, y, s, it: both(p, x, y, s, s, it))
+
+
+of_points("+", lambda p, x, s, it: it == wrap(32, S(x) + S(s)))
+of_points("-", lambda p, x, s, it: it == wrap(32, S(x) - S(s)))
+of_points("*", lambda p, x, s, it: it == wrap(32, near(p.times(x, s), 16)))
+of_points("/", lambda p, x, s, it: scaled(p, x, z3.BitVecVal(1 << 16, 32), s, it))
+case("-Point", "x: i32, y: i32", "u64", f"{{ let it = -{SPOTS[0]}; {BOTH} }}",
+     lambda p, x, y: two(-S(x), -S(y)))
+for name, calc in (("add", lambda x, y: S(x) + S(y)), ("sub", lambda x, y: S(x) - S(y))):
+    case(f"Point::checked_{name}", "x: i32, y: i32, s: i32, t: i32", "?u64",
+         f"{SPOTS[0]}.checked_{name}({SPOTS[1]}).map(|it| {BOTH})",
+         lambda p, x, y, s, t, calc=calc: (lambda a, b: some(all_fit(a, b), two(a, b)))(
+             calc(x, s), calc(y, t)))
+# fmt: on
