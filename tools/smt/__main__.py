@@ -14,6 +14,7 @@ import sys
 import tempfile
 import time
 from pathlib import Path
+from typing import Any
 
 RUSTC = "1.95"
 ROOT = Path(__file__).resolve().parents[2]
@@ -27,16 +28,19 @@ except ModuleNotFoundError:
 import arithmetic
 import decimals
 import faults
+import printing
 import rules
-import texts
+import table
 from build import build
-from cases import CASES, Case
 from ir import Module
+from parsing import Parsing
+from printing import Printing
 from proof import Proof, Refused, Unknown
+from state import LIMIT
 from values import Unsupported
 
 
-def prove(proof: Proof | decimals.Parsing, turns: int) -> str:
+def prove(proof: Proof | Parsing | Printing, turns: int) -> str:
     """Returns why a function is not proved, or nothing."""
     try:
         proof.sample(turns)
@@ -53,20 +57,20 @@ def prove(proof: Proof | decimals.Parsing, turns: int) -> str:
 def run(options: argparse.Namespace, room: Path) -> list[str]:
     """Proves the functions whose names have a pattern, and returns why each is not, or nothing."""
     found, agreed = [], 0
-    every: list[Case | decimals.Row] = [*CASES, *decimals.ROWS]
-    rows = [it for it in every if re.search(options.only, it.name)]
-    built = build(options.tree, room, rows, options.checked)
+    rows = [it for it in table.rows(options.exhaustive) if re.search(options.only, it.name)]
+    built = build(options.tree, room, table.wrappers(rows), options.checked)
     module, library = Module(built.ir), ctypes.CDLL(str(built.library))
+    done: dict[Any, str] = {}
     for row in rows:
-        began, proof = time.process_time(), decimals.proof_of(module, row, library, options.goals)
-        found.append(prove(proof, options.turns))
+        began, proof = time.process_time(), table.proof_of(module, row, library, options.goals)
+        # LLVM makes one function of those with the same code.
+        key = table.key(module, row)
+        reason = done[key] if key and key in done else prove(proof, options.turns)
+        found.append(reason)
+        done[key] = reason
         seconds, agreed = time.process_time() - began, agreed + proof.agreed
-        shown = f"{proof.goals:3} goals {seconds:7.2f} s  {found[-1] or 'proved'}"
+        shown = f"{proof.goals:3} goals {seconds:7.2f} s  {reason or 'proved'}"
         print(f"{row.name:40} {shown}", flush=True)
-    for name in texts.FRACTION_BITS:
-        if re.search(options.only, f"{name}::to_decimal"):
-            found.append(texts.fault(library, name))
-            print(f"{name + '::to_decimal':40} all 65536 values  {found[-1] or 'proved'}")
     print(f"the reader agrees with the processor on {agreed} arguments")
     return found
 
@@ -76,6 +80,7 @@ def main() -> int:
     parser.add_argument("--tree", type=Path, default=ROOT)
     parser.add_argument("--only", default="")
     parser.add_argument("--checked", action="store_true")
+    parser.add_argument("--exhaustive", action="store_true")
     parser.add_argument("--goals", type=Path)
     parser.add_argument("--mutants", action="store_true")
     parser.add_argument("--turns", type=int, default=3)
@@ -83,8 +88,15 @@ def main() -> int:
     sys.setrecursionlimit(20000)
     if options.mutants:
         return int(faults.report(options.tree, options.only) > 0)
-    for name, lemma in (*arithmetic.lemmas(), *rules.lemmas(), *rules.bounds(), *decimals.lemmas()):
+    for name, lemma in (
+        *arithmetic.lemmas(),
+        *rules.lemmas(),
+        *rules.bounds(),
+        *decimals.lemmas(),
+        *printing.lemmas(),
+    ):
         solver = z3.Solver()
+        solver.set("rlimit", LIMIT)
         solver.add(z3.Not(lemma))
         if solver.check() != z3.unsat:
             print(f"the lemma {name} is not proved")

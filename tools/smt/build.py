@@ -2,13 +2,10 @@
 
 import shutil
 import subprocess
-from collections.abc import Sequence
 from pathlib import Path
 from typing import NamedTuple
 
-import texts
-from cases import Case
-from decimals import Row
+from row import Case
 
 # How a slice of unknown length is passed: the type of its elements.
 SLICES = {"bytes": "u8", "room": "u8", "terms": "(Fixed, i32)"}
@@ -19,10 +16,10 @@ pub mod wrappers {
 extern crate std;
 use super::*;
 """
-OPTIONS = """--edition 2024 --crate-type cdylib --crate-name kernel --cap-lints allow
-    -C opt-level=2 -C codegen-units=1 -C panic=abort -C no-vectorize-loops -C no-vectorize-slp
-    -C llvm-args=-unroll-runtime=false
-    --emit llvm-ir,link""".split()
+COMMON = """--edition 2024 --crate-name kernel --cap-lints allow -C codegen-units=1
+    -C panic=abort""".split()
+OPTIONS = """--crate-type cdylib -C opt-level=2 -C no-vectorize-loops -C no-vectorize-slp
+    -C llvm-args=-unroll-runtime=false --emit llvm-ir,link""".split()
 
 
 class Built(NamedTuple):
@@ -72,18 +69,22 @@ def wrapper(case: Case) -> str:
     )
 
 
-def build(tree: Path, room: Path, rows: Sequence[Case | Row], checked: bool) -> Built:
-    """Compiles a copy of the package in a room: as `cargo build --release` does or, checked, with
-    checks of overflow and debug assertions."""
+def compiled(tree: Path, room: Path, wrappers: str, options: list[str]) -> str:
+    """Returns the IR of a copy of the package in a room, with wrappers."""
     shutil.copytree(tree / "src", room / "src")
-    cases = {it.symbol: it.case if isinstance(it, Row) else it for it in rows}.values()
     with (room / "src/lib.rs").open("a") as lib:
-        lib.write(HEAD + "".join(map(wrapper, cases)) + texts.WRAPPERS + "}\n")
-    checks = [
-        f"-C{it}={'on' if checked else 'off'}" for it in ("overflow-checks", "debug-assertions")
-    ]
-    command = ["rustc", *OPTIONS, *checks, "--out-dir", str(room), str(room / "src/lib.rs")]
+        lib.write(f"{HEAD}{wrappers}}}\n")
+    command = ["rustc", *COMMON, *options, "--out-dir", str(room), str(room / "src/lib.rs")]
     done = subprocess.run(command, capture_output=True, text=True)
     if done.returncode:
         raise Refusal(done.stderr)
-    return Built((room / "kernel.ll").read_text(), room / "libkernel.so")
+    return (room / "kernel.ll").read_text()
+
+
+def build(tree: Path, room: Path, wrappers: str, checked: bool) -> Built:
+    """Compiles as `cargo build --release` does or, checked, with checks of overflow and debug
+    assertions."""
+    checks = [
+        f"-C{it}={'on' if checked else 'off'}" for it in ("overflow-checks", "debug-assertions")
+    ]
+    return Built(compiled(tree, room, wrappers, [*OPTIONS, *checks]), room / "libkernel.so")

@@ -28,7 +28,7 @@ from memory import Memory, Object, globals_of
 from state import Goals, State
 
 from values import (
-    NO, YES, Address, Ended, Number, Unsupported, Value, any_of, constant, is_set, number_of,
+    NO, YES, Address, Ended, Number, Unsupported, Value, any_of, constant, is_set, number_of, settle,
 )  # fmt: skip
 
 PANICS = re.compile(r"panic|unwrap_failed|expect_failed|slice_index|len_mismatch")
@@ -105,7 +105,7 @@ class Machine:
             wrong = value.offset & attributes.align - 1 != 0
             if value.object and self.memory.object(value, state).align < attributes.align:
                 wrong = YES
-            value = value._replace(poison=any_of(value.poison, z3.simplify(wrong)))
+            value = value._replace(poison=any_of(value.poison, settle(wrong)))
         if attributes.noundef:
             self.goals.check("`noundef` of poison", value.poison, state)
         return value
@@ -113,8 +113,8 @@ class Machine:
     def may_be_null(self, address: Address, state: State) -> BoolRef:
         """No object is at address zero, and none ends there."""
         if address.object is None:
-            return z3.simplify(address.offset == 0)
-        return z3.simplify(z3.UGT(address.offset, self.memory.object(address, state).length))
+            return settle(address.offset == 0)
+        return settle(z3.UGT(address.offset, self.memory.object(address, state).length))
 
     def go_on(self, function: Function, state: State, paths: list[State]) -> Iterator[End]:
         """Runs a path to its end or to where it branches."""
@@ -169,7 +169,7 @@ class Machine:
         else:
             targets = self.switch(it, state)
         for label, condition in targets.items():
-            condition = z3.simplify(condition)
+            condition = settle(condition)
             if not z3.is_false(condition):
                 with suppress(Ended):
                     self.jump(function, label, condition, state, paths)
@@ -197,8 +197,9 @@ class Machine:
         if not z3.is_true(condition):
             state.conditions.append(condition)
         state.visits[target] = state.visits.get(target, 0) + 1
-        if state.visits[target] > 1 and not z3.is_true(condition) and not possible(state):
-            return
+        if state.visits[target] > 1 and not z3.is_true(condition):
+            if not self.goals.possible(state.conditions):
+                return
         if state.visits[target] > 400:
             raise Unsupported("a loop of more than 400 turns")
         phis = [it for it in function.blocks[target] if it.op == "phi"]
@@ -295,13 +296,6 @@ class Machine:
         if found := re.match(r"inttoptr \(i(\d+) (-?\d+) to ptr\)$", text):
             return Address(None, constant(int(found[2]) & (1 << int(found[1])) - 1))
         raise Unsupported(f"address {text}")
-
-
-def possible(state: State) -> bool:
-    solver = z3.Solver()
-    solver.set("timeout", 60000)
-    solver.add(state.conditions)
-    return bool(solver.check() != z3.unsat)
 
 
 def out_of(bounds: tuple[int, int], bits: BitVecRef) -> BoolRef:

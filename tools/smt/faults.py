@@ -11,17 +11,13 @@ from pathlib import Path
 from typing import Any
 
 from build import Refusal, build
-from cases import CASES, Case
-from decimals import ROWS, Row, proof_of
 from ir import Module
 from proof import Refused, Unknown
+from table import Row, proof_of, rows, wrappers
 from values import Unsupported
 
-# Of parsing, the seven formats.
-TRIED: list[Case | Row] = [
-    *CASES,
-    *(it for it in ROWS if it.name.endswith("from_decimal_bytes(text)")),
-]
+# Of parsing, one function of each format.
+TRIED = [it for it in rows(False) if not re.search(r"::from_decimal\(|FromStr|::lit", it.name)]
 NUMBERED = re.compile(r"!\d+|#\d+|@(?:alloc_|anon\.)\w+(?:\.\d+)*|17h[0-9a-f]{16}E")
 
 
@@ -47,11 +43,11 @@ def bodies(ir: str) -> dict[str, str]:
     }
 
 
-def refused(tree: Path, cases: list[Case | Row], right: dict[str, str]) -> tuple[str, str]:
+def refused(tree: Path, cases: list[Row], right: dict[str, str]) -> tuple[str, str]:
     """Returns a verdict on wrong Rust, and what shows it."""
     with tempfile.TemporaryDirectory() as room:
         try:
-            built = build(tree, Path(room), cases, False)
+            built = build(tree, Path(room), wrappers(cases), False)
         except Refusal as error:
             return "refused by rustc", str(error).splitlines()[0]
         now, library = bodies(built.ir), ctypes.CDLL(str(built.library))
@@ -75,7 +71,7 @@ def report(tree: Path, only: str) -> int:
     """Tries each mutant, and returns how many are neither refused nor outside of the list."""
     counts: Counter[str] = Counter()
     with tempfile.TemporaryDirectory() as room:
-        right = bodies(build(tree, Path(room), TRIED, False).ir)
+        right = bodies(build(tree, Path(room), wrappers(TRIED), False).ir)
     for edit in edits(tree):
         if not re.search(only, edit.name):
             continue

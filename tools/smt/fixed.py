@@ -27,32 +27,40 @@ def of_two(T: str, w: int, op: str, sign: str, calc: Rule) -> None:
          lambda p, x, y: checked(w, calc(x, y)))
 
 
-def of_one(T: str, w: int, f: int) -> None:
-    i, x, bits = f"i{w}", f"{T}::from_bits(x)", f".map({T}::to_bits)"
+def both(T: str, w: int, name: str, checked_name: str, body: str, calc: Rule) -> None:
+    """A function of one number that wraps, and one that is `None` if the result is out of range."""
+    x, bits = f"{T}::from_bits(x)", f".map({T}::to_bits)"
+    case(name, f"x: i{w}", f"i{w}", body.format(x), lambda p, x: wrap(w, calc(S(x))))
+    if checked_name:
+        case(f"{T}::{checked_name}", f"x: i{w}", f"?i{w}", f"{x}.{checked_name}(){bits}",
+             lambda p, x: checked(w, calc(S(x))))
 
-    def both(name: str, checked_name: str, body: str, calc: Rule) -> None:
-        case(name, f"x: {i}", i, body, lambda p, x: wrap(w, calc(S(x))))
-        if checked_name:
-            case(f"{T}::{checked_name}", f"x: {i}", "?" + i, f"{x}.{checked_name}(){bits}",
-                 lambda p, x: checked(w, calc(S(x))))
 
-    both(f"-{T}", "checked_neg", f"(-{x}).to_bits()", lambda n: -n)
-    both(f"{T}::abs", "checked_abs", f"{x}.abs().to_bits()", absolute)
-    both(f"{T}::floor", "", f"{x}.floor().to_bits()", lambda n: whole(n, f))
-    both(f"{T}::ceil", "checked_ceil", f"{x}.ceil().to_bits()", lambda n: -whole(-n, f))
-    both(f"{T}::fract", "", f"{x}.fract().to_bits()", lambda n: n - whole(n, f))
-    both(f"{T}::round", "checked_round", f"{x}.round().to_bits()", lambda n: up(n, f) * (1 << f))
-    case(f"{T}::to_be_bytes", f"x: {i}", f"[{w // 8}]", f"{x}.to_be_bytes()",
+def of_bits(T: str, w: int) -> None:
+    """What does not depend on the number of fraction bits."""
+    of_two(T, w, "add", "+", lambda x, y: S(x) + S(y))
+    of_two(T, w, "sub", "-", lambda x, y: S(x) - S(y))
+    both(T, w, f"-{T}", "checked_neg", "(-{}).to_bits()", lambda n: -n)
+    both(T, w, f"{T}::abs", "checked_abs", "{}.abs().to_bits()", absolute)
+    x, y = f"{T}::from_bits(x)", f"{T}::from_bits(y)"
+    case(f"{T}::to_be_bytes", f"x: i{w}", f"[{w // 8}]", f"{x}.to_be_bytes()",
          lambda p, x: big_endian(x, w // 8))
+    case(f"{T} < {T}", f"x: i{w}, y: i{w}", "bool", f"{x} < {y}", lambda p, x, y: B(S(x) < S(y)))
+    case(f"{T} == {T}", f"x: i{w}, y: i{w}", "bool", f"{x} == {y}", lambda p, x, y: B(S(x) == S(y)))
+
+
+def of_value(T: str, w: int, f: int) -> None:
+    """Rounding to an integer."""
+    both(T, w, f"{T}::floor", "", "{}.floor().to_bits()", lambda n: whole(n, f))
+    both(T, w, f"{T}::ceil", "checked_ceil", "{}.ceil().to_bits()", lambda n: -whole(-n, f))
+    both(T, w, f"{T}::fract", "", "{}.fract().to_bits()", lambda n: n - whole(n, f))
+    both(T, w, f"{T}::round", "checked_round", "{}.round().to_bits()",
+         lambda n: up(n, f) * (1 << f))
 
 
 for T, w, f in FORMATS:
-    of_two(T, w, "add", "+", lambda x, y: S(x) + S(y))
-    of_two(T, w, "sub", "-", lambda x, y: S(x) - S(y))
-    of_one(T, w, f)
-    x, y = f"{T}::from_bits(x)", f"{T}::from_bits(y)"
-    case(f"{T} < {T}", f"x: i{w}, y: i{w}", "bool", f"{x} < {y}", lambda p, x, y: B(S(x) < S(y)))
-    case(f"{T} == {T}", f"x: i{w}, y: i{w}", "bool", f"{x} == {y}", lambda p, x, y: B(S(x) == S(y)))
+    of_bits(T, w)
+    of_value(T, w, f)
 
 # ---------------------------------------------------------------- products and quotients
 

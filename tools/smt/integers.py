@@ -44,6 +44,11 @@ class Integers:
         self.made: dict[int, tuple[Any, ArithRef, Bounds]] = {}
         self.values: dict[int, tuple[Any, ArithRef, Bounds]] = {}
 
+    def parts(self, n: ArithRef, bounds: Bounds, by: int) -> tuple[ArithRef, ArithRef]:
+        """Returns the quotient of a number, which is between bounds, rounded down, and the
+        remainder."""
+        return n / by, n % by
+
     def number(self, term: Any) -> ArithRef:
         return self.value(term)[0]
 
@@ -54,7 +59,11 @@ class Integers:
             if low < 0 or high >= size:
                 below = z3.If(n < 0, n + size, n) if low < 0 else n
                 once = z3.If(n >= size, n - size, below) if high >= size else below
-                n = once if -size <= low and high < 2 * size else n % size
+                n = (
+                    once
+                    if -size <= low and high < 2 * size
+                    else self.parts(n, (low, high), size)[1]
+                )
                 low, high = 0, size - 1
             self.values[term.get_id()] = term, n, (low, high)
         return self.values[term.get_id()][1:]
@@ -83,6 +92,13 @@ class Integers:
             return z3.If(of(some), z3.IntVal(1), z3.IntVal(0)), every
         if kind in LINEAR:
             return self.linear(kind, width, [self.equal(it) for it in children])
+        if kind == z3.Z3_OP_EXTRACT and not term.params()[1]:
+            return self.equal(children[0])
+        if kind == z3.Z3_OP_BAND and z3.is_bv_value(children[1]):
+            n, (low, high) = self.equal(children[0])
+            mask = children[1].as_long()
+            most = min(high, mask) if low >= 0 else mask
+            return self.masked(n, (low, high), mask), (0, most)
         some = [self.value(it) for it in children]
         (a, (low, high)), (_, (least, most)) = some[0], some[-1]
         if kind == z3.Z3_OP_CONCAT:
@@ -98,21 +114,33 @@ class Integers:
             return signed(a, children[0].size()), (-half, half - 1)
         if kind == z3.Z3_OP_EXTRACT:
             bottom = term.params()[1]
-            return a / (1 << bottom), (low >> bottom, high >> bottom)
+            quotient = self.parts(a, (low, high), 1 << bottom)[0]
+            return quotient, (low >> bottom, high >> bottom)
         if least != most:
             raise Unsupported(f"{term.decl()} of two unknowns")
         if kind in (z3.Z3_OP_BLSHR, z3.Z3_OP_BUDIV, z3.Z3_OP_BUDIV_I) and (
             kind == z3.Z3_OP_BLSHR or least
         ):
             by = 1 << least if kind == z3.Z3_OP_BLSHR else least
-            return a / by, (low // by, high // by)
+            return self.parts(a, (low, high), by)[0], (low // by, high // by)
         if kind in (z3.Z3_OP_BUREM, z3.Z3_OP_BUREM_I) and least:
-            return a % least, (0, min(high, least - 1))
+            return self.parts(a, (low, high), least)[1], (0, min(high, least - 1))
         if kind == z3.Z3_OP_BASHR:
-            return signed(a, width) / (1 << least), (-(1 << width - 1), (1 << width - 1) - 1)
+            both = -(1 << width - 1), (1 << width - 1) - 1
+            return self.parts(signed(a, width), both, 1 << least)[0], both
         if kind == z3.Z3_OP_BSHL and least < width:
             return a * (1 << least), (low << least, high << least)
         raise Unsupported(f"{term.decl()}")
+
+    def masked(self, n: ArithRef, bounds: Bounds, mask: int) -> ArithRef:
+        """Returns the bits of a number that a mask of neighbors has."""
+        low = mask & -mask
+        above = (mask + low).bit_length() - 1
+        if mask + low != 1 << above:
+            raise Unsupported(f"the mask {mask:#x}")
+        rest = self.parts(n, bounds, 1 << above)[1]
+        below = self.parts(rest, (0, (1 << above) - 1), low)[1] if low > 1 else z3.IntVal(0)
+        return rest - below
 
     def linear(
         self, kind: int, width: int, some: list[tuple[ArithRef, Bounds]]

@@ -14,7 +14,7 @@ from state import State
 
 from values import (
     Number, Unsupported, Value, address_of, any_of, bit_of, constant, extend, fold, is_constant,
-    number_of,
+    number_of, settle,
 )  # fmt: skip
 
 if TYPE_CHECKING:
@@ -46,9 +46,9 @@ def call(
     if kind == "abs":
         # With the flag 1, the least number gives poison.
         least = z3.And(bits[1] == 1, bits[0] == 1 << bits[0].size() - 1)
-        poison = any_of(poison, z3.simplify(least))
+        poison = any_of(poison, settle(least))
     result = compute(machine, kind, width_of(type_), bits)
-    return Number(result if kind == "abs" else z3.simplify(result), poison)
+    return Number(result if kind == "abs" else settle(result), poison)
 
 
 def compute(machine: Machine, kind: str, width: int, bits: list[BitVecRef]) -> BitVecRef:

@@ -12,7 +12,7 @@ from ir import Module, array_of, size_of, split_commas, stored_size, take_type
 from state import Goals, State
 
 from values import (
-    YES, Address, Number, Unsupported, Value, any_of, choose, constant, fold, is_constant,
+    YES, Address, Number, Unsupported, Value, any_of, choose, constant, fold, is_constant, settle,
 )  # fmt: skip
 
 
@@ -202,7 +202,7 @@ class Memory:
             raise Unsupported("a load of what is no address")
         numbers = [it if isinstance(it, Number) else NOTHING for it in cells]
         bits = [it.bits for it in numbers[:: self.order]]
-        together = z3.simplify(z3.Concat(bits)) if len(bits) > 1 else bits[0]
+        together = settle(z3.Concat(bits)) if len(bits) > 1 else bits[0]
         return Number(together, any_of(*(it.poison for it in numbers)))
 
     def store(self, type_: str, value: Value, address: Address, align: int, state: State) -> None:
@@ -218,5 +218,8 @@ class Memory:
             self.write(address, parts_of(value), align, state)
         else:
             bytes_ = range(0, 8 * stored_size(type_), 8)[:: -self.order]
-            parts = (z3.simplify(z3.Extract(i + 7, i, value.bits)) for i in bytes_)
+            parts = (
+                settle(z3.Extract(i + 7, i, value.bits)) if len(bytes_) > 1 else value.bits
+                for i in bytes_
+            )
             self.write(address, [Number(it, value.poison) for it in parts], align, state)

@@ -3,7 +3,6 @@
 import ctypes
 import random
 import re
-import time
 from pathlib import Path
 from typing import Any
 
@@ -22,13 +21,11 @@ from loops import Loops
 from execution import End, Machine
 from memory import Slice
 from rules import Products, Sums, Text, use_width
-from state import Goals
+from state import LIMIT, QUICK, Goals
 from values import constant, number_of
 
-# How long the solver may think about one goal, in seconds.
-TIME = 300
-# How long arguments are looked for that show a fault, in seconds.
-SEARCH = 10
+# How many arguments are tried, to find one that shows a fault.
+SEARCH = 3000
 # The most elements of a slice in an argument that is shown.
 MOST = 12
 
@@ -103,9 +100,9 @@ class Proof:
             of_rule.append(result)
         return [case.rule(products, *of_rule)]
 
-    def solver(self, goal: BoolRef, facts: list[BoolRef], seconds: int = TIME) -> Any:
+    def solver(self, goal: BoolRef, facts: list[BoolRef], limit: int = LIMIT) -> Any:
         solver = z3.SolverFor("QF_UFBV")
-        solver.set("timeout", 1000 * seconds)
+        solver.set("rlimit", limit)
         solver.add(goal, *facts)
         return solver
 
@@ -117,7 +114,7 @@ class Proof:
             return
         self.asked += 1
         # Most goals need no fact.
-        if self.arithmetic.facts and self.solver(goal, [], 5).check() == z3.unsat:
+        if self.arithmetic.facts and self.solver(goal, [], QUICK).check() == z3.unsat:
             return
         solver = self.solver(goal, self.arithmetic.facts)
         if self.folder:
@@ -181,8 +178,8 @@ class Proof:
 
     def search(self) -> None:
         """Looks for arguments for which the function is wrong."""
-        chance, end = random.Random(0), time.process_time() + SEARCH
-        while time.process_time() < end:
+        chance = random.Random(0)
+        for _ in range(SEARCH):
             self.judge(chosen(self.case, chance))
 
     def sample(self, turns: int) -> None:

@@ -1,10 +1,12 @@
 """Rows of integers of 24 bits, and of the bytes of scalars."""
 
+import re
 from typing import Any, NamedTuple
 
 import z3
 
-from row import case, relation
+from fixed import of_bits
+from row import CASES, case, relation
 
 from rules import (
     B, S, U, Text, big_endian, fits, fits_unsigned, low, saturate, some, stored, together, wrap,
@@ -141,4 +143,24 @@ def written(text: Text, n: Any, at: Any, size: int, result: Any, after: Text) ->
 
 for kind in SCALARS:
     bytes_of(kind)
+
+
+def of_each_f(w: int) -> None:
+    """`FixedI16<F>`, `FixedI32<F>` and `FixedI64<F>`, of each F less than the width: one function
+    that takes F, whose arms are what the rows of a format call."""
+    first = len(CASES)
+    of_bits("T", w)
+    if w == 16:
+        bytes_of(Kind("T", w // 8, f"i{w}", "T::from_bits(x)", ".to_bits()"))
+    for at, row in enumerate(CASES[first:], first):
+        arms = (f"{f if f + 1 < w else '_'} => {{ type T = FixedI{w}<{f}>; {row.body} }}"
+                for f in range(w))
+        CASES[at] = row._replace(
+            name=re.sub(r"\bT\b", f"FixedI{w}<F>", row.name), body=f"match f {{ {' '.join(arms)} }}",
+            parameters=[("f", "u8"), *row.parameters],
+            rule=lambda p, f, *v, rule=row.rule: rule(p, *v))
+
+
+for w in (16, 32, 64):
+    of_each_f(w)
 # fmt: on

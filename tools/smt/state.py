@@ -8,10 +8,14 @@ from typing import TYPE_CHECKING, NamedTuple
 import z3
 from z3 import BoolRef
 
-from values import YES, Ended, Value
+from values import YES, Ended, Value, settle
 
 if TYPE_CHECKING:
     from memory import Object
+
+# What the solver may spend on one goal, and on a goal without facts, in steps that it counts: so a
+# verdict does not depend on the machine, nor on what else it does.
+LIMIT, QUICK = 500_000_000, 1_000_000
 
 
 class State(NamedTuple):
@@ -38,9 +42,16 @@ class Goals:
     def __init__(self, refute: Callable[[str, list[BoolRef]], None]) -> None:
         self.refute = refute
 
+    def possible(self, conditions: list[BoolRef]) -> bool:
+        """Returns whether the conditions may be met."""
+        solver = z3.Solver()
+        solver.set("rlimit", LIMIT)
+        solver.add(conditions)
+        return bool(solver.check() != z3.unsat)
+
     def check(self, why: str, condition: BoolRef, state: State) -> None:
         """The condition must not hold on the path."""
-        condition = z3.simplify(condition)
+        condition = settle(condition)
         if z3.is_true(condition):
             self.bad(why, state)
         if not z3.is_false(condition):

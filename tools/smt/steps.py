@@ -16,7 +16,7 @@ from state import State
 
 from values import (
     NO, Address, Number, Unsupported, Value, address_of, any_of, bit_of, choose, constant, extend,
-    fold, is_constant, is_set, number_of,
+    fold, is_constant, is_set, number_of, settle,
 )  # fmt: skip
 
 if TYPE_CHECKING:
@@ -71,7 +71,7 @@ def add(machine: Machine, it: Instruction, state: State) -> Value:
     if it.op == "add" and greatest < 1 << bits.size():
         known.keep(bits, greatest)
     wrong = [overflows(it.op, a.bits, b.bits, flag == "nsw") for flag in sorted(flags)]
-    return Number(fold(bits), any_of(a.poison, b.poison, *map(z3.simplify, wrong)))
+    return Number(fold(bits), any_of(a.poison, b.poison, *map(settle, wrong)))
 
 
 def multiply(machine: Machine, it: Instruction, state: State) -> Value:
@@ -102,7 +102,7 @@ def divide(machine: Machine, it: Instruction, state: State) -> Value:
         "srem": z3.SRem,
     }[it.op]
     inexact = rest != 0 if flags else NO
-    return Number(fold(quotient(x, y)), any_of(a.poison, b.poison, z3.simplify(inexact)))
+    return Number(fold(quotient(x, y)), any_of(a.poison, b.poison, settle(inexact)))
 
 
 def shift(machine: Machine, it: Instruction, state: State) -> Value:
@@ -120,7 +120,7 @@ def shift(machine: Machine, it: Instruction, state: State) -> Value:
             known.keep(bits, greatest << number)
         if it.op == "lshr":
             known.keep(bits, greatest >> number)
-    return Number(fold(bits), any_of(a.poison, b.poison, *map(z3.simplify, wrong)))
+    return Number(fold(bits), any_of(a.poison, b.poison, *map(settle, wrong)))
 
 
 def logic(machine: Machine, it: Instruction, state: State) -> Value:
@@ -129,10 +129,12 @@ def logic(machine: Machine, it: Instruction, state: State) -> Value:
     a, b = map(number_of, pair(machine, text, state))
     x, y = a.bits, b.bits
     bits = x & y if it.op == "and" else x | y if it.op == "or" else x ^ y
+    if flags:
+        bits = x + y  # which is the same, if no bit is in both
     if it.op == "and":
         known = machine.arithmetic
         known.keep(bits, min(known.greatest(x), known.greatest(y)))
-    both = z3.simplify(x & y != 0) if flags else NO
+    both = settle(x & y != 0) if flags else NO
     return Number(fold(bits), any_of(a.poison, b.poison, both))
 
 
@@ -142,11 +144,11 @@ def convert(machine: Machine, it: Instruction, state: State) -> Value:
     source, target = text.rsplit(" to i", 1)
     a, width = number_of(operand(machine, source, state)), int(target)
     if it.op != "trunc":
-        negative = z3.simplify(a.bits < 0) if flags else NO
+        negative = settle(a.bits < 0) if flags else NO
         return Number(fold(extend(it.op == "sext", width, a.bits)), any_of(a.poison, negative))
     low = z3.Extract(width - 1, 0, a.bits)
     wrong = [extend(flag == "nsw", a.bits.size(), low) != a.bits for flag in sorted(flags)]
-    return Number(fold(low), any_of(a.poison, *map(z3.simplify, wrong)))
+    return Number(fold(low), any_of(a.poison, *map(settle, wrong)))
 
 
 def compare(machine: Machine, it: Instruction, state: State) -> Value:
@@ -157,7 +159,7 @@ def compare(machine: Machine, it: Instruction, state: State) -> Value:
     if isinstance(a, Address) and isinstance(b, Address):
         return compare_addresses(machine, kind, a, b, state)
     x, y = number_of(a), number_of(b)
-    differ = z3.simplify((x.bits < 0) != (y.bits < 0)) if flags else NO
+    differ = settle((x.bits < 0) != (y.bits < 0)) if flags else NO
     return Number(bit_of(COMPARE[kind](x.bits, y.bits)), any_of(x.poison, y.poison, differ))
 
 
@@ -284,7 +286,7 @@ def element(machine: Machine, text: str, state: State) -> Address:
             wrong.append(z3.Or(number > most, number < least))
         wrong.append(overflows("add", distance, number * size, True))
         distance = distance + number * size
-    offset = z3.simplify(base.offset + distance)
+    offset = settle(base.offset + distance)
     if not flags:
         return Address(base.object, offset, poison)
     length = constant(0)
@@ -293,7 +295,7 @@ def element(machine: Machine, text: str, state: State) -> Address:
     wrong += [z3.UGT(it, length) for it in (base.offset, offset)]
     if "nuw" in flags:
         wrong.append(distance < 0)
-    return Address(base.object, offset, any_of(poison, *map(z3.simplify, wrong)))
+    return Address(base.object, offset, any_of(poison, *map(settle, wrong)))
 
 
 # ---------------------------------------------------------------- memory

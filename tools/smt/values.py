@@ -1,6 +1,6 @@
 """Values of LLVM's IR: numbers and addresses, each with the condition under which it is poison."""
 
-from typing import NamedTuple, Union
+from typing import Any, NamedTuple, Union
 
 import z3
 from z3 import BitVecRef, BoolRef
@@ -49,16 +49,23 @@ def choose(condition: BoolRef, yes: BoolRef, no: BoolRef) -> BoolRef:
     return NO if z3.is_false(yes) and z3.is_false(no) else z3.If(condition, yes, no)
 
 
+def settle(term: Any) -> Any:
+    """Returns a term, or the constant that it is. Other terms stay as they are, so that equal parts
+    of two stay equal."""
+    found = z3.simplify(term)
+    return found if is_constant(found) or z3.is_true(found) or z3.is_false(found) else term
+
+
 def is_set(bit: BitVecRef) -> BoolRef:
     """Returns whether a number of one bit is 1."""
     if z3.is_app_of(bit, z3.Z3_OP_ITE) and is_constant(bit.arg(1)) and is_constant(bit.arg(2)):
         if bit.arg(1).as_long() and not bit.arg(2).as_long():
             return bit.arg(0)
-    return z3.simplify(bit == 1)
+    return settle(bit == 1)
 
 
 def bit_of(condition: BoolRef) -> BitVecRef:
-    return z3.simplify(z3.If(condition, constant(1, 1), constant(0, 1)))
+    return settle(z3.If(condition, constant(1, 1), constant(0, 1)))
 
 
 def fold(bits: BitVecRef) -> BitVecRef:
