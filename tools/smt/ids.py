@@ -122,9 +122,12 @@ usize: From<GlyphId24>  u32  u64  usize::from(GlyphId24::new(x)) as u64
 u32: From<GlyphId>  u32  u32  u32::from(GlyphId::new(x))
 usize: From<Offset16>  u16  u64  usize::from(Offset16::new(x)) as u64
 usize: From<Offset24>  u32  u64  usize::from(Offset24::new(Uint24::new(x))) as u64
-Offset16::to_usize  u16  u64  OffsetValue::to_usize(Offset16::new(x)) as u64
-Offset32::to_usize  u32  u64  OffsetValue::to_usize(Offset32::new(x)) as u64
-Offset24::to_usize  u32  u64  OffsetValue::to_usize(Offset24::new(Uint24::new(x))) as u64
+Offset16::to_usize  u16  u64  Offset16::new(x).to_usize() as u64
+Offset16: OffsetValue::to_usize  u16  u64  OffsetValue::to_usize(Offset16::new(x)) as u64
+Offset32::to_usize  u32  u64  Offset32::new(x).to_usize() as u64
+Offset32: OffsetValue::to_usize  u32  u64  OffsetValue::to_usize(Offset32::new(x)) as u64
+Offset24::to_usize  u32  u64  Offset24::new(Uint24::new(x)).to_usize() as u64
+Offset24: OffsetValue::to_usize  u32  u64  OffsetValue::to_usize(Offset24::new(Uint24::new(x))) as u64
 GlyphId16::to_u32  u16  u32  GlyphId16::new(x).to_u32()
 GlyphId16::to_usize  u16  u64  GlyphId16::new(x).to_usize() as u64
 GlyphId24::to_usize  u32  u64  GlyphId24::new(x).to_usize() as u64

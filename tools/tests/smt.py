@@ -1,5 +1,5 @@
-"""The second proof leaves out no function by its name: each public function is in a row of
-`tools/smt/cases.py`, or outside by one of six rules. The rows are read, and nothing is proved."""
+"""The second proof leaves out no function by its name: a row of `tools/smt` calls it, as the compiled
+IR of the row shows, or it is outside by one of six rules. Nothing is proved here."""
 
 import ast
 import collections
@@ -13,12 +13,8 @@ from collections.abc import Iterator
 ROOT = pathlib.Path(__file__).resolve().parents[2]
 SOURCE = ROOT / "src/generated"
 
-FORMATS = {
-    "FixedI16": "F2Dot14 F4Dot12 F6Dot10",
-    "FixedI32": "Fixed F26Dot6 F2Dot30",
-    "FixedI64": "F48Dot16",
-}
-SIGNS = {"Add": "+", "Sub": "-", "Mul": "*", "Div": "/"}
+# Of a type with several formats, the fraction bits of each.
+FORMATS = {"FixedI16": {14, 12, 10}, "FixedI32": {16, 6, 30}, "FixedI64": {16}}
 
 # Why a function is in no row: the first rule whose pattern its file, head and signature have.
 SLICES = r"&('a )?(mut )?(\[[^;\]]*\]|str)|Shortest|FromStr|Pad\b|Predefined|ScalarArray|TableData"
@@ -35,38 +31,18 @@ IN_A_ROW = "have a row, and so are proved"
 
 
 class Function:
-    """A public function: its file, the head of its `impl` or trait, and its signature."""
+    """A public function: its file and line, the head of its `impl` or trait, and its signature."""
 
-    def __init__(self, file: pathlib.Path, outer: str, name: str, signature: str) -> None:
-        self.text, self.name = f"{file}: {outer}: {signature}", name
+    def __init__(self, file: pathlib.Path, line: int, outer: str, signature: str) -> None:
+        self.text, self.at = f"{file}: {outer}: {signature}", (str(file), line)
         head = re.sub(r"^(pub )?(impl|trait)(<[^{]*?>(?= ))? ", "", outer).split(" where")[0]
-        self.trait, _, type_ = head.split(": ")[0].rpartition(" for ")
+        _, _, type_ = head.split(": ")[0].rpartition(" for ")
         self.type = re.sub(r"<.*", "", type_.removeprefix("&").strip())
 
-    def is_called(self, type_: str, name: str, rust: str) -> bool:
-        """Returns whether a row calls the function of a type."""
-        if re.search(r"\bFn", self.text):
-            return False  # A row that calls `map` calls that of `Option`.
-        operator = self.trait.split("<")[0]
-        if operator == "Neg":
-            return name == f"-{type_}"
-        if sign := SIGNS.get(operator.removesuffix("Assign")):
-            found = re.search(r"<(Point|T\b|F48Dot16)", self.trait)
-            other = f" {found[1]}" if found else ""
-            expected = f"{type_} {sign}{'=' * operator.endswith('Assign')}{other}"
-            return name in (expected, f"{expected} {type_}")
-        if operator in ("From", "TryFrom"):
-            return name == f"{type_}: {self.trait}"
-        called = rf"\b{type_}\b.*(\.|::){self.name}\b|Scalar::{self.name}\(.*\b{type_}\b"
-        return bool(re.search(called, name) or re.search(called, rust))
-
-    def place(self, rows: list[tuple[str, str]]) -> str | None:
-        """Returns whether rows call the function, of a type of several formats a row for each, or
-        the rule by which none does."""
-        types = FORMATS.get(self.type, self.type).split() or [""]
-        if not re.search(r"\W", self.type) and all(
-            any(self.is_called(type_, *row) for row in rows) for type_ in types
-        ):
+    def place(self, calls: dict[tuple[str, int], set[int]]) -> str | None:
+        """Returns whether rows call the function, of a type of several formats with each, or the
+        rule by which none does."""
+        if self.at in calls and FORMATS.get(self.type, set()) <= calls[self.at]:
             return IN_A_ROW
         return next((rule for rule, it in RULES.items() if re.search(it, self.text)), None)
 
@@ -85,27 +61,28 @@ def functions() -> Iterator[Function]:
             found = re.match(r"(pub )?(const )?fn (\w+)[^{;]*(?:\[[^\]]*\][^{;]*)*{", text)
             if found and (found[1] or " for " in outer or outer.startswith("pub trait")):
                 hidden = "" if outer or found[3] in exports else "NOT EXPORTED "
-                yield Function(path.relative_to(SOURCE), outer, found[3], hidden + found[0])
+                yield Function(path.relative_to(SOURCE), number + 1, outer, hidden + found[0])
 
 
-def rows() -> list[tuple[str, str]]:
-    """Returns the name and the Rust of each row."""
-    show = (
-        "import cases, decimals; rows = [*cases.CASES, *(it.case for it in decimals.ROWS)];"
-        "print([(it.name.split(',')[0], it.body) for it in rows])"
-    )
+def calls() -> dict[tuple[str, int], set[int]]:
+    """Returns the functions that rows call, by file and line, with the fraction bits of their
+    types."""
+    show = "import reach, pathlib; print(reach.called(pathlib.Path('../..')))"
     for python in (sys.executable, "/usr/bin/python3"):
         command = [python, "-B", "-c", show]
         shown = subprocess.run(command, cwd=ROOT / "tools/smt", capture_output=True, text=True)
         if shown.returncode == 0:
-            found: list[tuple[str, str]] = ast.literal_eval(shown.stdout)
+            found = collections.defaultdict[tuple[str, int], set[int]](set)
+            for _, called in ast.literal_eval(shown.stdout):
+                for file, line, bits in called:
+                    found[file, line] |= set(bits)
             return found
     raise unittest.SkipTest("no Python has z3")
 
 
 class SecondProof(unittest.TestCase):
     def test_no_function_is_left_out(self) -> None:
-        known = rows()
+        known = calls()
         places = [(it.place(known), it.text) for it in functions()]
         self.assertEqual([text for place, text in places if place is None], [])
         page = (ROOT / "docs/EVIDENCE.md").read_text().split("| Public functions | Number |")[1]

@@ -1,0 +1,44 @@
+"""Which functions the wrapper of each row calls itself, by the IR that rustc makes of it before any
+optimization: the place of a function in the source, and its numbers of fraction bits."""
+
+import re
+import tempfile
+from pathlib import Path
+
+import build
+import table
+
+OPTIONS = """--crate-type lib -C opt-level=0 -C no-prepopulate-passes -C debuginfo=2
+    -C symbol-mangling-version=v0 --emit llvm-ir""".split()
+
+# A file, its line, and numbers of fraction bits of the types in the name.
+Called = tuple[str, int, list[int]]
+FUNCTION = re.compile(r'linkageName: "(\w+)".*? file: (!\d+), line: (\d+)')
+
+
+def called(tree: Path) -> list[tuple[str, list[Called]]]:
+    """Returns each row by its name, with the functions that it calls."""
+    rows = table.rows(True)
+    with tempfile.TemporaryDirectory() as room:
+        ir = build.compiled(tree, Path(room), table.wrappers(rows), OPTIONS)
+    files = dict(
+        re.findall(r'^(!\d+) = !DIFile\(filename: "[^"]*/src/generated/([^"]*)"', ir, re.M)
+    )
+    places = {
+        name: (
+            files[file],
+            int(line),
+            [int(it, 16) for it in re.findall(r"FixedI\d\dKm(\w+?)_", name)],
+        )
+        for name, file, line in FUNCTION.findall(ir)
+        if file in files
+    }
+    bodies = dict(re.findall(r"^define [^@]*@(\w+)(\(.*?^})", ir, re.M | re.S))
+    calls = {
+        it.symbol: re.findall(r"= call [^@]*@(\w+)|^  call [^@]*@(\w+)", bodies[it.symbol], re.M)
+        for it in rows
+    }
+    return [
+        (it.name, [places[name] for pair in calls[it.symbol] for name in pair if name in places])
+        for it in rows
+    ]
