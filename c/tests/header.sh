@@ -92,17 +92,22 @@ if [[ -z ${BUILT-} && -n $solver ]] && command -v clang-22 >/dev/null; then
     # arguments of each row.
     "$solver" "$tools/smt/header.py" --program "$work/rows.c" include
     answers() {
-        "$@" -std=gnu11 -w -Iinclude "$work/rows.c" -o "$work/rows"
-        "$work/rows" 10000
+        "${@:2}" -std=gnu11 -w -Iinclude "$work/rows.c" -o "$work/rows"
+        "$work/rows" 10000 "$1"
     }
-    answers clang-22 -O2 >"$work/rows.proved"
     # Of code that is not optimized, a sanitizer also sees a read of which nothing comes.
-    for options in -O3 '-O0 -fsanitize=address,undefined -fno-sanitize-recover=all'; do
+    sanitized='-O0 -fsanitize=address,undefined -fno-sanitize-recover=all'
+    for bits in 64 32; do
+        answers "$bits" clang-22 -O2 >"$work/rows.proved"
         for compiler in gcc clang; do
-            if command -v "$compiler" >/dev/null; then
-                # shellcheck disable=SC2086
-                diff <(answers "$compiler" $options) "$work/rows.proved"
+            if fails $compiler -m$bits $sanitized -Iinclude tests/header.c -o "$work/rows"; then
+                echo "left out: the header for $bits bits by $compiler"
+                continue
             fi
+            for options in -O3 "$sanitized" {-O2,"$sanitized"}' -U__BYTE_ORDER__'; do
+                # shellcheck disable=SC2086
+                diff <(answers "$bits" "$compiler" -m$bits $options) "$work/rows.proved"
+            done
         done
     done
 else

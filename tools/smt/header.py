@@ -6,7 +6,7 @@ the second proof: for every argument, the result is right and nothing is undefin
 `clang-22` has the LLVM of rustc 1.95. `FOLDER` has the header. Each build is proved, or those that
 are named, of which `--list` prints the names. `--program FILE` writes a program in C instead, which
 prints for each row a number of what the row returns and writes for random arguments: whichever
-compiler makes it, it prints the same."""
+compiler makes it, it prints the same, and for sizes of 32 bits whichever processor runs it."""
 
 import argparse
 import ctypes
@@ -27,7 +27,7 @@ import inputs
 import rules
 from cases import Case, Rule, written
 from ir import Module
-from proof import Proof, Refused, Unknown
+from proof import TIME, Proof, Refused, Unknown
 from rules import B, S, U, Text, checked, fits, near, together, up, whole, wrap
 from values import Unsupported
 
@@ -44,8 +44,9 @@ BUILDS = {
     "32-bit": "--target=x86_64-linux-gnux32 -ffreestanding",
 }
 HEADER = Path(__file__).resolve().parents[2] / "c/include"
-# Functions that no row calls: texts, all of which header.c compares.
-ELSEWHERE = {"fty_status_text"}
+# The most goals of a row, and how many of the solver's steps count as a second. So a wrong loop
+# ends, and a busy machine proves what an idle one does. No row has half as many goals.
+GOALS, STEPS = 100, 1_000_000
 # Statuses, and what an out-parameter has before a call.
 OUT_OF_RANGE, BAD_FRACTION, OUT_OF_BOUNDS, KEPT = 2, 3, 6, 7
 ROWS: list[Case] = []
@@ -83,6 +84,21 @@ def fallible(
         lambda *given: outcome(*given)[0])  # fmt: skip
     row(f"{name}, value", parameters, type_,
         f"({{ {type_in_c} it = {KEPT}; (void)!{call}; it; }})", value)  # fmt: skip
+
+
+class Row(Proof):
+    """A proof that ends with a verdict, whichever loop is in the header."""
+
+    def solver(self, goal: z3.BoolRef, facts: list[z3.BoolRef], seconds: int = TIME) -> Any:
+        solver = super().solver(goal, facts, seconds)
+        solver.set(timeout=(1 << 32) - 1, rlimit=STEPS * seconds)
+        return solver
+
+    def refute(self, why: str, conditions: list[z3.BoolRef]) -> None:
+        if self.goals == GOALS:
+            self.search()
+            raise Unknown(f"more than {GOALS} goals")
+        super().refute(why, conditions)
 
 
 # fmt: off
@@ -164,6 +180,14 @@ row("FTY_PAD_INIT, width", "n: size", "u64", "({ fty_pad it = FTY_PAD_INIT(n); i
 row("FTY_PAD_INIT, others", "n: size", "u32", "({ fty_pad it = FTY_PAD_INIT(n);"
     " (uint32_t)it.fill << 24 | it.align << 16 | it.plus << 8 | it.zeros; })",
     lambda p, n: z3.BitVecVal(ord(" ") << 24 | 2 << 16, 32))
+TEXTS = ["done", "not a decimal number", "result out of range", "unsupported number of fraction bits",
+         "buffer too small", "invalid padding", "field out of bounds",
+         "different numbers of scalars and deltas", "too many scalars", "unknown status",
+         "wrong length of a tag", "invalid byte in a tag", "printable byte after a space in a tag"]
+DIFFERS = '__builtin_memcmp(it, "%s", sizeof "%s")'
+of_status = "".join(f"x == {k} ? {DIFFERS % (it, it)} : " for k, it in enumerate(TEXTS))
+row("status_text", "x: u32", "bool", "({ const char *const it = fty_status_text((fty_status)x);"
+    f" ({of_status}{DIFFERS % (TEXTS[9], TEXTS[9])}) == 0; }})", lambda p, x: z3.BitVecVal(1, 1))
 
 
 # ---------------------------------------------------------------- fields of a view, or of none
@@ -489,7 +513,7 @@ static uint64_t any(void) {
     }
 }
 
-/* What is passed: `s` is bytes, each other is a number. */
+/* What is passed: `s` is bytes, `z` a size, each other is a number. */
 static const struct {
     const char *name, *given;
     void (*call)(const uint64_t *, uint64_t *);
@@ -501,6 +525,7 @@ static void add(uint64_t number) { sum = (sum ^ number) * UINT64_C(0x100000001B3
 
 int main(int count, char **words) {
     const long rounds = count > 1 ? atol(words[1]) : 10000;
+    const uint64_t most = UINT64_MAX >> (count > 2 ? 64 - atol(words[2]) : 0);
     for (size_t k = 0; k < sizeof rows / sizeof rows[0]; k++) {
         for (long i = 0; i < rounds; i++) {
             uint64_t numbers[28] = {0}, result[2];
@@ -516,7 +541,7 @@ int main(int count, char **words) {
                     at += 2;
                     numbers[at] = length[texts++];
                 } else
-                    numbers[at] = (uint32_t)any() == 1 ? 0 : any();
+                    numbers[at] = any() & (*it == 'z' ? most : UINT64_MAX);
                 at += 2;
             }
             rows[k].call(numbers, result);
@@ -536,13 +561,14 @@ int main(int count, char **words) {
 
 def program() -> str:
     def given(case: Case) -> str:
-        return "".join("s" if it in ("bytes", "room") else "n" for _, it in case.parameters)
+        letters = {"bytes": "s", "room": "s", "size": "z"}
+        return "".join(letters.get(it, "n") for _, it in case.parameters)
 
     table = (f'    {{"{it.name}", "{given(it)}", call_{it.symbol}}},\n' for it in ROWS)
     return CODE + PROGRAM % "".join(table)
 
 
-def fault_of(proof: Proof) -> str:
+def fault_of(proof: Row) -> str:
     """Returns why a row is not proved, or nothing."""
     try:
         proof.sample(3)
@@ -569,7 +595,7 @@ def prove(folder: Path, build: str, only: str) -> int:
             library = ctypes.CDLL(f"{room}/rows.so")
     faults, chosen = 0, [it for it in ROWS if re.search(only, it.name)]
     for case in chosen:
-        start, proof = time.process_time(), Proof(module, case, library)
+        start, proof = time.process_time(), Row(module, case, library)
         fault = fault_of(proof)
         faults += fault != ""
         shown = f"{proof.goals:3} goals {time.process_time() - start:7.2f} s  {fault or 'proved'}"
@@ -594,7 +620,7 @@ def main() -> int:
         return 0
     text = (options.folder / "font_types.h").read_text()
     functions = set(re.findall(r"^FTY_API_(?:INLINE|RUN|STATIC) .*\b(fty_\w+)\(", text, re.M))
-    called = ELSEWHERE | set(re.findall(r"fty_\w+", " ".join(it.body for it in ROWS)))
+    called = set(re.findall(r"fty_\w+", " ".join(it.body for it in ROWS)))
     if left := {it for it in functions - called if not it.startswith("fty_api_")}:
         print(f"in no row: {' '.join(sorted(left))}")
         return 1
