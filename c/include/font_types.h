@@ -241,9 +241,9 @@ FTY_API_STATIC void fty_poke_u64(uint8_t *at, uint64_t value) FTY_API_NOEXCEPT {
 
 /**
  * Bytes of a font, of a table or of a record: {bytes, length}. A view that is absent has null
- * bytes and the length 0. Its fields are missing, and its parts have null bytes, so that a
- * reader can look at the last view alone. Offsets, counts and sizes may be any, as a font has
- * them: no function of views overflows, or reads beyond a view.
+ * bytes and the length 0, as {NULL, 0} has, whatever is meant by it. Its fields are missing, and
+ * its parts have null bytes, so that a reader can look at the last view alone. Offsets, counts and
+ * sizes may be any, as a font has them: no function of views overflows, or reads beyond a view.
  */
 typedef struct fty_view {
     const uint8_t *bytes; /**< the first byte; null if the view is absent */
@@ -291,7 +291,10 @@ FTY_API_INLINE fty_view fty_items(
     return fty_api_view(view, offset, count * size);
 }
 
-/** The bytes from an offset to the end of the view; absent if the offset is past the end. */
+/**
+ * The bytes from an offset to the end of the view; absent if the offset is past the end. From 0,
+ * the whole view, also where 0 means null: fty_at_offset16 and its like are for such an offset.
+ */
 FTY_API_INLINE fty_view fty_from(fty_view view, size_t offset) FTY_API_NOEXCEPT {
     if (offset > view.length)
         return fty_absent();
@@ -307,8 +310,7 @@ FTY_API_INLINE fty_view fty_api_to(fty_view view, uint32_t start) FTY_API_NOEXCE
 
 /**
  * The bytes from where the 16-bit offset at `offset` points, to the end of the view; absent
- * if that offset is 0, missing, or past the end. (fty_from with the field's value would give
- * the whole view for an offset that is 0 or missing.)
+ * if that offset is 0, missing, or past the end.
  */
 FTY_API_INLINE fty_view fty_at_offset16(fty_view view, size_t offset) FTY_API_NOEXCEPT {
     if (!fty_api_within(view, offset, 2))
@@ -526,7 +528,8 @@ FTY_API_INLINE uint32_t fty_uint(fty_view view, size_t offset, size_t size) FTY_
     }
 }
 
-/* ---- fields in turn: the first of a view, which moves to the bytes after it ---- */
+/* ---- fields in turn: the first of a view, which moves to the bytes after it, for a reader that
+ *      goes forward; one that keeps an offset anyway calls fty_read_u16 and its like ---- */
 
 /** @cond */
 /* Moves a view by the length of its first field, and returns where that is. */
@@ -640,7 +643,8 @@ FTY_API_INLINE fty_status fty_take_uint(
 }
 
 /* ---- writing: big-endian fields at byte offsets in an array of `length` bytes; signed and
- *      fixed-point values by a cast, as `(uint16_t)value` ---- */
+ *      fixed-point values by a cast, as `(uint16_t)value`. Length, offset and value are integers,
+ *      of which a compiler takes any order ---- */
 
 /**
  * Writes the low `size` bytes of a value, 1 to 8. Fails by FTY_OUT_OF_BOUNDS unless all of them
@@ -1148,7 +1152,7 @@ FTY_API_MUST_USE fty_status fty_tag_new(
 /**
  * Checks a tag, and stores nothing if it is valid. Fails by FTY_TAG_LENGTH for four
  * spaces; else by FTY_TAG_BYTE or FTY_TAG_AFTER_SPACE, by what is wrong with the first
- * invalid byte, whose index, 0 to 3, is stored.
+ * invalid byte, whose index, 0 to 3, is stored. (OTS's CheckTag also takes a space anywhere.)
  */
 FTY_API_MUST_USE fty_status fty_tag_validate(uint32_t tag, uint32_t *position) FTY_API_NOEXCEPT;
 

@@ -4,6 +4,22 @@ cc -std=c99 $strict examples/example.c "$archive" -o "$work/example"
 [[ $("$work/example") == "$shown" ]]
 c++ -std=c++11 $strict examples/example.cpp "$archive" -o "$work/example"
 [[ $("$work/example") == $'2.25 -0.375 0 120\n1e3: not a decimal number' ]]
+{
+    echo '#include "font_types.h"'
+    lines cpp 'Inside your own reader'
+    cat <<'CPP'
+int main() {
+    const uint8_t bytes[] = {0, 1, 0, 0, 7, 0xFF, 0xFE, 0x12, 0x34, 9};
+    Buffer it(bytes, sizeof bytes);
+    struct { uint32_t a; uint8_t b; int16_t c; uint16_t d; } of = {};
+    return it.ReadU32(&of.a) && of.a == 0x10000 && it.ReadU8(&of.b) && of.b == 7
+           && it.ReadS16(&of.c) && of.c == -2 && it.ReadU16(&of.d) && !it.ReadU16(&of.d)
+           && of.d == 0x1234 && !it.Skip(2) && it.Remaining() == 1 && it.Skip(1) ? 0 : 1;
+}
+CPP
+} >"$work/buffer.cpp"
+c++ -std=c++11 $strict "$work/buffer.cpp" -o "$work/buffer"
+"$work/buffer"
 if command -v cmake >/dev/null; then
     mkdir "$work/cmake"
     {
