@@ -41,7 +41,7 @@ COUNTS = [
     ("tests/", ".rs", "/*", 0),
     ("crates/", ".rt", "\nmod ", 112),
     ("crates/", ".edit", "# clause: ", 292),
-    ("crates/", ".edit", "# control: ", 75),
+    ("crates/", ".edit", "# control: ", 74),
     ("crates/fontval/", "stdin", "\n", 213),
     ("c/tests/", ".sh", "\n", 381),
 ]
