@@ -212,7 +212,9 @@ class Printing:
                 raise Unsupported("a text of unknown length")
             cells = out.cells[: size.bits.as_long()]
             numbers = [it if isinstance(it, Number) else NOTHING for it in cells]
-            yield [*numbers, NOTHING] if not z3.is_false(size.poison) else numbers, end.conditions
+            if not z3.is_false(settle(size.poison)):
+                raise Unsupported("a length that may be poison")
+            yield numbers, end.conditions
 
     # ------------------------------------------------------------ goals
 
