@@ -17,7 +17,7 @@ ORDER = {
 LINEAR = (z3.Z3_OP_BADD, z3.Z3_OP_BSUB, z3.Z3_OP_BNEG, z3.Z3_OP_BNOT, z3.Z3_OP_BMUL)
 LOGIC = {
     z3.Z3_OP_AND: z3.And, z3.Z3_OP_OR: z3.Or, z3.Z3_OP_NOT: z3.Not, z3.Z3_OP_XOR: z3.Xor,
-    z3.Z3_OP_ITE: z3.If,
+    z3.Z3_OP_ITE: z3.If, z3.Z3_OP_IMPLIES: z3.Implies,
 }  # fmt: skip
 
 
@@ -95,6 +95,8 @@ class Integers:
         if kind == z3.Z3_OP_EXTRACT and not term.params()[1]:
             return self.equal(children[0])
         if kind == z3.Z3_OP_BAND and z3.is_bv_value(children[1]):
+            if not children[1].as_long():
+                return z3.IntVal(0), (0, 0)
             n, (low, high) = self.equal(children[0])
             mask = children[1].as_long()
             most = min(high, mask) if low >= 0 else mask

@@ -135,7 +135,7 @@ class Printed(Goals):
         self.proof = proof
 
     def possible(self, conditions: list[BoolRef]) -> bool:
-        return bool(self.proof.solved(list(map(self.proof.integer, conditions))) != z3.unsat)
+        return bool(self.proof.solved(list(map(self.proof.premise, conditions))) != z3.unsat)
 
 
 class Printing:
@@ -224,6 +224,13 @@ class Printing:
             self.read[it.get_id()] = it, self.integers.truth(it) if is_bits else it
         return self.read[it.get_id()][1]
 
+    def premise(self, it: BoolRef) -> BoolRef:
+        """The same of a condition that is known. One that is not read is left out."""
+        try:
+            return self.integer(it)
+        except Unsupported:
+            return z3.BoolVal(True)
+
     def names(self, it: BoolRef) -> list[str]:
         if it.get_id() not in self.known:
             parts = (part.decl() for part in subterms([it]) if not part.num_args())
@@ -259,7 +266,7 @@ class Printing:
 
     def refute(self, why: str, conditions: list[BoolRef]) -> None:
         """Shows that the conditions exclude each other."""
-        self.exclude(why, list(map(self.integer, conditions[:-1])), conditions[-1])
+        self.exclude(why, list(map(self.premise, conditions[:-1])), conditions[-1])
 
     def exclude(self, why: str, known: list[BoolRef], wrong: BoolRef) -> None:
         """Shows that a condition does not hold if others do. Those that are of what it is of are
@@ -272,7 +279,7 @@ class Printing:
         some = [*(it for it in known if self.group(it) <= group), goal]
         if self.solved(some) == z3.unsat:
             return
-        facts = map(self.integer, self.arithmetic.facts)
+        facts = map(self.premise, self.arithmetic.facts)
         if (answer := self.solved([*facts, *known, goal])) != z3.unsat:
             self.search()
             raise Unknown(f"{why}: the solver says {answer}, and no value is known that shows it")
@@ -283,7 +290,7 @@ class Printing:
         """Proves the function, or raises why not."""
         machine = Machine(self.module, self.arithmetic, Printed(self))
         for cells, conditions in self.ends(machine, self.bits):
-            self.check(cells, list(map(self.integer, conditions)))
+            self.check(cells, list(map(self.premise, conditions)))
 
     def check(self, cells: list[Number], known: list[BoolRef]) -> None:
         """Shows that a path prints a decimal: perhaps a sign, a whole without a zero at its start,
