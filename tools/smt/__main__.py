@@ -28,6 +28,7 @@ except ModuleNotFoundError:
 import arithmetic
 import decimals
 import faults
+import geometry
 import printing
 import rules
 import table
@@ -91,7 +92,7 @@ def main() -> int:
     for name, lemma in (
         *arithmetic.lemmas(),
         *rules.lemmas(),
-        *rules.bounds(),
+        *geometry.bounds(),
         *decimals.lemmas(),
         *printing.lemmas(),
     ):

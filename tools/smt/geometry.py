@@ -1,13 +1,16 @@
 """Rows of matrices, points and scales."""
 
+from collections.abc import Iterator
 from typing import Any
 
 import z3
+from z3 import BoolRef
 
+from integers import subterms
 from row import Rule, case, relation
 
 from rules import (
-    S, Products, checked, checked_scaled, fits, near, scaled, some, wrap,
+    S, Exact, Products, checked, checked_scaled, fits, near, scaled, some, wrap,
 )  # fmt: skip
 
 # fmt: off
@@ -26,7 +29,7 @@ FROM = "Fixed::from_bits(x), Fixed::from_bits(y)"
 def moved(p: Products, *v: Any) -> list[Any]:
     """The coordinates of a point that a matrix moves: "a sum of rounded products"."""
     m = dict(zip([*ENTRIES, "x", "y"], v))
-    return [near(p.times(m[s], m["x"]), 16) + near(p.times(m[t], m["y"]), 16) + S(m[plus])
+    return [p.rounded(m[s], m["x"]) + p.rounded(m[t], m["y"]) + p.number(m[plus])
             for s, t, plus in ROWS.values()]
 
 
@@ -35,8 +38,40 @@ def product(p: Products, *v: Any) -> dict[str, Any]:
     columns = {it: moved(p, *v[:6], *v[6 + i : 8 + i]) for i, it in ((0, "x"), (2, "y"), (4, "d"))}
     a = dict(zip(ENTRIES, v))
     return {name: columns[name[1] if name[0] != "d" else "d"]["xy".index(
-        name[0] if name[0] != "d" else name[1])] - (S(a["d" + name[0]]) if name[0] != "d" else 0)
+        name[0] if name[0] != "d" else name[1])] - (p.number(a["d" + name[0]]) if name[0] != "d" else 0)
             for name in ENTRIES}
+
+
+def bounds() -> Iterator[tuple[str, BoolRef]]:
+    """How far the rules above are from the exact images, of all integers. Where all fits, by FITS,
+    the wrapped numbers are these: so this is of `checked_transform`, `checked_mul` and
+    `checked_image`, and of the laws. Both sides are times 2^16, and of two matrices times 2^32."""
+    a, b = (z3.Ints(" ".join(of + it for it in ENTRIES)) for of in "ab")
+    x, y = z3.Ints("x y")
+    m, image = dict(zip(ENTRIES, a)), list[z3.ArithRef]()
+    size = lambda n: z3.If(n < 0, -n, n)
+    of_b = dict(zip(ENTRIES, b))
+    for s, t, plus in ROWS.values():
+        image.append(of_b[s] * x + of_b[t] * y + of_b[plus] * 2**16)
+    for i, (s, t, plus) in enumerate(ROWS.values()):
+        u, v, d = m[s], m[t], m[plus]
+        twice = u * image[0] + v * image[1] + d * 2**32
+        for name, by, exact, bound, find in (
+            ("IMAGE", 16, u * x + v * y + d * 2**16, 2**16, lambda p: moved(p, *a, x, y)),
+            ("COMPOSED", 32, twice, 2**16 * (size(x) + size(y)) + 2 * 2**32,
+             lambda p: moved(p, *product(p, *a, *b).values(), x, y)),
+            ("IN TURN", 32, twice, 2**16 * (size(u) + size(v)) + 2**32,
+             lambda p: moved(p, *a, *moved(p, *b, x, y))),
+        ):
+            p = Exact()
+            error = find(p)[i] * 2**by - exact
+            # Those of which the error is: a rounded product may be of another.
+            known: list[BoolRef] = []
+            for q, it in reversed(p.known.items()):
+                if any(q.eq(of) for of in subterms([error, *known])):
+                    known.append(it)
+            yield f"{name} {'xy'[i]}", z3.Implies(
+                z3.And(known), z3.And(error <= bound, -error <= bound))
 
 
 two = lambda x, y: z3.Concat(wrap(32, x), wrap(32, y))
@@ -70,8 +105,8 @@ for m, n in zip(ENTRIES[::2], ENTRIES[1::2]):
 
 point = "Point::new(Fixed::from_bits(x), Fixed::from_bits(y))"
 for i, axis in enumerate("xy"):
-    # By the lemmas IMAGE and IN TURN, these are within the bounds, where all fits. `composed` is
-    # the rows of `Matrix * Matrix` and of `Matrix * Point` after each other, with COMPOSED.
+    # By the lemmas of `bounds`, these are within the bounds, where all fits. `composed` is the rows
+    # of `Matrix * Matrix` and of `Matrix * Point` after each other.
     case(f"laws::image, {axis}", entries("a") + ", x: i32, y: i32", "i32",
          f"laws::image({matrix('a')}, {point}).{axis}.to_bits()",
          lambda p, *v, i=i: wrap(32, moved(p, *v)[i]))
@@ -83,7 +118,7 @@ for i, axis in enumerate("xy"):
 
 # ---------------------------------------------------------------- scales
 SCALE = "Scale::from_factor(Fixed::from_bits(s))"
-pixels = lambda p, x, s: near(p.times(x, s), 16)
+pixels = lambda p, x, s: p.rounded(x, s)
 relation("Scale::new, factor", "x: i32, y: u16", "?i32",
          "Scale::new(F26Dot6::from_bits(x), y).map(|it| it.factor().to_bits())",
          lambda p, x, y, result: checked_scaled(

@@ -110,39 +110,10 @@ def lemmas() -> Iterator[tuple[str, BoolRef]]:
     for k in (6, 16):
         rounded = (2 * size + (1 << k)) / (1 << k + 1)
         shifted = (n + (1 << k - 1) - z3.If(n < 0, 1, 0)) / (1 << k)
-        yield f"NEAR of {k} bits", shifted == z3.If(n < 0, -rounded, rounded)
-
-
-def bounds() -> Iterator[tuple[str, BoolRef]]:
-    """The bounds of matrices, of all integers. For the coordinate x, (u, v, d) is (xx, xy, dx) of
-    the matrix a, and for y (yx, yy, dy). A rounded product, as `near` is one, is any integer within
-    a half of the product. Both sides are multiplied by 2^32, and of IMAGE by 2^16."""
-    u, v, d, bxx, byx, bxy, byy, bdx, bdy, x, y = z3.Ints("u v d xx yx xy yy dx dy x y")
-    q = [z3.Int(f"q{i}") for i in range(8)]
-
-    def size(n: z3.ArithRef) -> z3.ArithRef:
-        return z3.If(n < 0, -n, n)
-
-    def within(error: z3.ArithRef, bound: z3.ArithRef, products: list[z3.ArithRef]) -> BoolRef:
-        near_all = [2 * size(it * 65536 - n) <= 65536 for it, n in zip(q, products)]
-        return z3.Implies(z3.And(near_all), z3.And(error <= bound, -error <= bound))
-
-    exact = u * (bxx * x + bxy * y + bdx * 65536) + v * (byx * x + byy * y + bdy * 65536)
-    image = (q[0] + q[1] + d) * 2**16 - (u * x + v * y + d * 2**16)
-    yield "IMAGE", within(image, z3.IntVal(2**16), [u * x, v * y])
-    entries = [u * bxx, v * byx, u * bxy, v * byy, u * bdx, v * bdy]
-    result = q[6] + q[7] + q[4] + q[5] + d
-    yield "COMPOSED", within(
-        result * 2**32 - (exact + d * 2**32),
-        65536 * (size(x) + size(y)) + 2 * 2**32,
-        [*entries, (q[0] + q[1]) * x, (q[2] + q[3]) * y],
-    )
-    moved = [bxx * x, bxy * y, byx * x, byy * y]
-    yield "IN TURN", within(
-        (q[4] + q[5] + d) * 2**32 - (exact + d * 2**32),
-        65536 * (size(u) + size(v)) + 2**32,
-        [*moved, u * (q[0] + q[1] + bdx), v * (q[2] + q[3] + bdy)],
-    )
+        is_near = z3.And(2 * (shifted * 2**k - n) <= 2**k, 2 * (n - shifted * 2**k) <= 2**k)
+        yield f"NEAR of {k} bits", z3.And(shifted == z3.If(n < 0, -rounded, rounded), is_near)
+    wide = z3.BitVec("n", W)
+    yield "FITS", z3.Implies(fits(32, wide), S(wrap(32, wide)) == wide)
 
 
 class Products:
@@ -156,12 +127,12 @@ class Products:
         wide = (z3.SignExt(64 - it.size(), it) for it in (x, y))
         return S(self.arithmetic.multiply(*wide))
 
-    def sum(self, *factors: BitVecRef) -> BitVecRef:
-        """The sum of products of two."""
-        total = N(0)
-        for x, y in zip(factors[::2], factors[1::2]):
-            total = total + self.times(x, y)
-        return total
+    def rounded(self, x: BitVecRef, y: BitVecRef) -> BitVecRef:
+        """The product of numbers with 16 fraction bits in one of them, rounded."""
+        return near(self.times(x, y), 16)
+
+    def number(self, x: BitVecRef) -> BitVecRef:
+        return S(x)
 
     def quotients(
         self, x: BitVecRef, a: BitVecRef, c: BitVecRef
@@ -188,6 +159,22 @@ class Products:
                 )
                 found.append((z3.If(negative, -U(q), U(q)), is_nearest))
         return found
+
+
+class Exact(Products):
+    """Of integers: by NEAR, a rounded product is any within a half of the product."""
+
+    def __init__(self) -> None:
+        self.known: dict[z3.ArithRef, BoolRef] = {}
+
+    def rounded(self, x: z3.ArithRef, y: z3.ArithRef) -> z3.ArithRef:
+        q = z3.Int(f"q{len(self.known)}")
+        twice = 2 * (q * 2**16 - x * y)
+        self.known[q] = z3.And(twice <= 2**16, -twice <= 2**16)
+        return q
+
+    def number(self, x: z3.ArithRef) -> z3.ArithRef:
+        return x
 
 
 def scaled(p: Products, x: BitVecRef, a: BitVecRef, c: BitVecRef, result: BitVecRef) -> BoolRef:
