@@ -27,7 +27,7 @@ import inputs
 import rules
 from cases import Case, Rule, written
 from ir import Module
-from proof import TIME, Proof, Refused, Unknown
+from proof import Proof, Refused, Unknown
 from rules import B, S, U, Text, checked, fits, near, together, up, whole, wrap
 from values import Unsupported
 
@@ -44,9 +44,8 @@ BUILDS = {
     "32-bit": "--target=x86_64-linux-gnux32 -ffreestanding",
 }
 HEADER = Path(__file__).resolve().parents[2] / "c/include"
-# The most goals of a row, and how many of the solver's steps count as a second. So a wrong loop
-# ends, and a busy machine proves what an idle one does. No row has half as many goals.
-GOALS, STEPS = 100, 1_000_000
+# The most goals of a row, so that a wrong loop ends. No row has half as many.
+GOALS = 100
 # Statuses, and what an out-parameter has before a call.
 OUT_OF_RANGE, BAD_FRACTION, OUT_OF_BOUNDS, KEPT = 2, 3, 6, 7
 ROWS: list[Case] = []
@@ -88,11 +87,6 @@ def fallible(
 
 class Row(Proof):
     """A proof that ends with a verdict, whichever loop is in the header."""
-
-    def solver(self, goal: z3.BoolRef, facts: list[z3.BoolRef], seconds: int = TIME) -> Any:
-        solver = super().solver(goal, facts, seconds)
-        solver.set(timeout=(1 << 32) - 1, rlimit=STEPS * seconds)
-        return solver
 
     def refute(self, why: str, conditions: list[z3.BoolRef]) -> None:
         if self.goals == GOALS:
