@@ -335,8 +335,16 @@ trait Resolved: OffsetValue {
     }
 }
 
+/// Of a method that takes `&self`, a call by value means the library's.
+trait Emitted: Scalar + Copy {
+    fn write_at(&self, bytes: &mut [u8], at: usize) -> usize {
+        self.to_raw().as_slice().iter().zip(&mut bytes[at..]).map(|(n, to)| *to = *n).count()
+    }
+}
+
 impl<T: Scalar> Taken for T {}
 impl<T: OffsetValue> Resolved for T {}
+impl<T: Scalar + Copy> Emitted for T {}
 
 #[test]
 fn methods_of_two_traits() {
@@ -344,4 +352,7 @@ fn methods_of_two_traits() {
     assert_eq!(<Offset16 as Taken>::take_from(&mut bytes), Offset16::new(3));
     assert_eq!(Resolved::resolve(Offset16::new(3), &[0; 10]), 7);
     assert_eq!(OffsetValue::resolve(Offset16::new(0), bytes), None);
+    let mut bytes = [9; 3];
+    assert_eq!((0x0102_u16.write_at(&mut bytes, 2), bytes), (None, [9; 3]));
+    assert_eq!((Emitted::write_at(&0x0102_u16, &mut bytes, 2), bytes), (1, [9, 9, 1]));
 }

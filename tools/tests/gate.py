@@ -32,9 +32,9 @@ FETCH = "cargo fetch --quiet --manifest-path compare/Cargo.toml"
 LEFT_OUT = {"crate": "nothing", "--anew": "nothing", "freetype": "FreeType"}
 OF_RUSTC = "{0}, which needs rustc-1.95"
 LEFT_OUT["rustc"] = "; ".join(map(OF_RUSTC.format, ("compared", "mir", "smt", "smt-checked")))
-LEFT_OUT[
-    "python3 -c import z3"
-] = "smt, which needs python3-z3; smt-checked, which needs python3-z3"
+LEFT_OUT["python3 -c import z3"] = "; ".join(
+    f"{it}, which needs python3-z3" for it in ("a part of tools", "smt", "smt-checked")
+)
 LEFT_OUT[FETCH] = "; ".join(
     f"{step}, which needs font-types, which cargo cannot fetch" for step in ("compare", "compared")
 )
