@@ -10,8 +10,8 @@ use std::slice::ChunksExact;
 /// `None` if `size` is 0 or `offset + count * size` is greater than the number of bytes.
 ///
 /// Tables store records this way so that later versions can lengthen them: the axes and the
-/// instances of `fvar`, the axes of `STAT`, the values of `MVAR`. Read the fields of each record from
-/// its own bytes.
+/// instances of `fvar`, the axes of `STAT`, the values of `MVAR`. Read the fields of each record
+/// from its own bytes.
 ///
 /// ```
 /// use font_types::{Scalar, Tag, records};

@@ -1,7 +1,7 @@
 -- A fraction in units of 1 / 2^n, rounded down.
-use Rattle.std.proofs.Common.{◌≡◌, ℕ, zero, suc, ◌+◌, ◌-◌, ◌*◌, ◌/◌, ◌^◌, ◌<◌, ◌≤◌, inl, inr, arith, pow-add, pow-suc, ◌∙◌, refl, sym}
-use Rattle.std.proofs.Common.{ap, List, [], ◌∷◌, ◌++◌, length, length-append, ◌⊎◌, append-nil, min, take, drop}
-use Rattle.std.proofs.Common.{mul-lt-mul_of_pos_right, length-take-le, pow_pos, replicate}
+use Rattle.std.proofs.Common.{◌≡◌, ℕ, zero, suc, ◌+◌, ◌-◌, ◌*◌, ◌/◌, ◌^◌, ◌<◌, ◌≤◌, inl, inr, arith, pow-add, pow-suc}
+use Rattle.std.proofs.Common.{◌∙◌, refl, sym, ap, List, [], ◌∷◌, ◌++◌, length, length-append, ◌⊎◌, append-nil, min}
+use Rattle.std.proofs.Common.{take, drop, mul-lt-mul_of_pos_right, length-take-le, pow_pos, replicate}
 use Rattle.std.proofs.Math.Nat.{mul-div-mul_right, one-le-pow, div-div-eq-div-mul, add-mul-div_left, div-eq_of_lt}
 use Rattle.std.proofs.{lemmas.Nat.mul-pow, lemmas.Nat.div_below, lemmas.Int.Digits.digits_value-lt}
 use Rattle.std.proofs.lemmas.List.{drop_all, take_all, length-replicate, take-append-drop}

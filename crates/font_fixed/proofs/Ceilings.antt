@@ -1,11 +1,11 @@
 -- Ceilings of numbers of w bits with f fraction bits: the floor of a step less one unit more.
-use Rattle.std.proofs.Common.{◌≡◌, ◌∙◌, sym, ap, refl, ℕ, ◌+◌, ◌-◌, ◌*◌, ◌%◌, ◌^◌, ◌≤◌, ℤ, pos, neg_ℤ, ◌+ℤ◌, ◌-ℤ◌}
-use Rattle.std.proofs.Common.{◌*ℤ◌, ◌≤ℤ◌, ◌<ℤ◌, arith, pow_pos, SFits, to_z, of_z}
+use Rattle.std.proofs.Common.{◌≡◌, ◌∙◌, sym, ap, refl, ℕ, ◌+◌, ◌-◌, ◌*◌, ◌%◌, ◌^◌, ◌≤◌, ℤ, pos, neg_ℤ, ◌+ℤ◌, ◌-ℤ◌, ◌*ℤ◌}
+use Rattle.std.proofs.Common.{◌≤ℤ◌, ◌<ℤ◌, arith, pow_pos, SFits, to_z, of_z}
 use Rattle.std.proofs.lemmas.Int.{ints, by_lt_z, to_z-of_z}
 use Rattle.std.specs.Int.{Width}
 use mir.Val.{bits, hbits}
-use Rattle.font_base.specs.{Wrap.wrap, Wrap.FitsBits, Wrap.Laws.wrap_is, Wrap.Laws.wrap_gives}
-use Rattle.font_base.specs.{Integers.sum-times, Integers.product-times}
+use Rattle.font_base.specs.{Wrap.wrap, Wrap.FitsBits, Wrap.Laws.wrap_is, Wrap.Laws.wrap_gives, Integers.sum-times}
+use Rattle.font_base.specs.{Integers.product-times}
 use Rattle.font_base.proofs.Widths.{bits_positive, half_range-bits}
 use Rattle.font_decimal.proofs.Integers.{neg-times, times_monotone}
 use Rattle.font_fixed.specs.Operations.{IsFloor, IsCeiling, IsWrappedCeiling, floor_of, ceiling_of}
@@ -27,7 +27,8 @@ ceiling_gives : (f : ℕ) (x u : ℤ) → x ≤ℤ (u *ℤ pos (2 ^ f)) → (u *
     → IsCeiling f x (u *ℤ pos (2 ^ f))
 ceiling_gives f x u low high =
     let times = neg-times u (2 ^ f) in
-    let floor = floor_gives f (neg_ℤ x) (neg_ℤ u) (omega (arith, ints, times, low)) (omega (arith, ints, times, high)) in
+    let floor = floor_gives f (neg_ℤ x) (neg_ℤ u) (omega (arith, ints, times, low))
+    (omega (arith, ints, times, high)) in
     record { whole = u; bits = refl; low = low; high = high; is = omega (arith, ints, floor, times) }
 
 -- the floor of a step less one unit more

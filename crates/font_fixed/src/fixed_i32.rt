@@ -8,7 +8,8 @@ ghost use Rattle.font_base.specs.{Wrap.FitsBits, Bytes.bytes_of};
 ghost use Rattle.font_decimal.specs.Padding.{padded_text, FillsFront};
 ghost use Rattle.font_decimal.specs.{Shortest.IsShortest, Shown.shown};
 ghost use Rattle.font_fixed.specs.Operations.{WrapsTo, IsNearestWhole, IsIntegral, IsFloor};
-ghost use Rattle.font_fixed.specs.Operations.{IsFract, IsCeiling, IsWrappedCeiling, ceiling_of, clamp};
+ghost use Rattle.font_fixed.specs.Operations.{IsFract, IsCeiling, IsWrappedCeiling, ceiling_of};
+ghost use Rattle.font_fixed.specs.Operations.{clamp};
 ghost use Rattle.font_fixed.specs.FixedI32.{bits_of, text_of};
 ghost use Rattle.font_fixed.specs.{Reading.ParsesFixedPoint, Rounding.rounded};
 ghost use Rattle.font_fixed.specs.{declared.fixed_i32.FixedI32.FixedI32, Longest.longest};
@@ -268,8 +269,8 @@ where
         }
     }
 
-    /// Returns the shortest decimal that parses back to the value, which is also what `{}` prints, in
-    /// a buffer.
+    /// Returns the shortest decimal that parses back to the value, which is also what `{}` prints,
+    /// in a buffer.
     ///
     /// `fixedToStr` of fontTools computes its text from a float instead.
     ///

@@ -1,14 +1,12 @@
 -- Scaled units: no overflow of 16 bits, the distance from the exact coordinate, order and opposites.
-use Rattle.std.proofs.Common.{◌≡◌, ◌≢◌, ◌∙◌, ap, sym, refl, ℕ, zero, suc, ◌*◌, ◌^◌, ◌<◌, ◌≤◌, ℤ, pos, negsuc, neg_ℤ, ◌+ℤ◌}
-use Rattle.std.proofs.Common.{◌*ℤ◌, ◌≤ℤ◌, lit<, arith, unsigned_abs, SFits, w16, w32, mul-le-mul_right}
+use Rattle.std.proofs.Common.{◌≡◌, ◌≢◌, ◌∙◌, ap, sym, refl, ℕ, zero, suc, ◌*◌, ◌^◌, ◌<◌, ◌≤◌, ℤ, pos, negsuc, neg_ℤ}
+use Rattle.std.proofs.Common.{◌+ℤ◌, ◌*ℤ◌, ◌≤ℤ◌, lit<, arith, unsigned_abs, SFits, w16, w32, mul-le-mul_right}
 use Rattle.std.proofs.{lemmas.Int.ints, lemmas.Int.unsigned_abs-mul, Math.IntN.*ℤ_comm}
-use Rattle.font_base.specs.{Wrap.FitsBits, Wrap.wrap, Wrap.Laws.wrap-fits}
-use Rattle.font_base.specs.{Integers.sum-times, Integers.product-times}
+use Rattle.font_base.specs.{Wrap.FitsBits, Wrap.wrap, Wrap.Laws.wrap-fits, Integers.sum-times, Integers.product-times}
 use Rattle.font_decimal.specs.Near.{near}
 use Rattle.font_decimal.proofs.{Near.near_is, Near.near_monotone, Integers.times_monotone}
 use Rattle.font_fixed.proofs.{NumberLaws.near_exact, Orders.near-neg, Sums.sums}
-use Rattle.font_geom.specs.FixedMatrix.{rounded_product}
-use Rattle.font_geom.specs.Scale.{factor_of, IsCloseScaled}
+use Rattle.font_geom.specs.{FixedMatrix.rounded_product, Scale.factor_of, Scale.IsCloseScaled}
 use Rattle.font_geom.proofs.Bounds.{Close, Close-times, rounded_close}
 
 -- the product of few units and a factor of 32 bits fits in them

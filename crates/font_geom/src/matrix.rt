@@ -4,8 +4,9 @@ ghost use Rattle.std.specs.Prelude.{◌≡◌, ◌↔◌, ◌^◌, ◌≤◌, po
 ghost use Rattle.font_base.specs.Wrap.{FitsBits};
 ghost use Rattle.font_fixed.specs.Fixed.{fixed_bits, fixed_of};
 ghost use Rattle.font_geom.specs.Calls.{CanCallEach, CallsEach};
-ghost use Rattle.font_geom.specs.FixedMatrix.{matrix_bits, point_bits, bits_of_point, rounded_product};
-ghost use Rattle.font_geom.specs.FixedMatrix.{rounded_image, rounded_matrix_product, FitsPoint};
+ghost use Rattle.font_geom.specs.FixedMatrix.{matrix_bits, point_bits, bits_of_point};
+ghost use Rattle.font_geom.specs.FixedMatrix.{rounded_product, rounded_image};
+ghost use Rattle.font_geom.specs.FixedMatrix.{rounded_matrix_product, FitsPoint};
 ghost use Rattle.font_geom.specs.Matrix.{affine_form, FitsEach, elements_of, identity_matrix};
 ghost use Rattle.font_geom.specs.Matrix.{CanTransform, IsTransformed, CanMultiply, IsProductOf};
 

@@ -54,7 +54,8 @@ given_after text last IsRight outcome first right second = grind (arith, append_
 
 -- a value varied by terms, of whose words there are not an odd number
 pub given_varied : (line words : List (List ℕ)) (base : List ℕ) (units : ℤ) (terms : List (Fixed × ℤ))
-    (old new : List ℕ) (outcome : Result (Unit {0}) CommandError) → line ≡ base ∷ words → ScansInteger 16 base (Ok units)
+    (old new : List ℕ) (outcome : Result (Unit {0}) CommandError) → line ≡ base ∷ words
+    → ScansInteger 16 base (Ok units)
     → CollectsTerms words (Ok terms) → GivesAnswer (λ answer. answer ≡ varied_answer units terms) old new outcome
     → GivesAnswer (Varies line) old new outcome
 given_varied line words base units terms old new outcome first scanned read given = rw first (given_as _ _ _ _ _

@@ -6,8 +6,7 @@ use Rattle.std.proofs.lemmas.Int.{ints, by_lt_z}
 use Rattle.std.proofs.lemmas.Bool.Decides.{not_from_Decides, nat_tests}
 use Rattle.std.specs.Ordering.{int_eq}
 use borrow.Author.Differences.{up as above, down as below, sum_is_lem, product_is}
-use Rattle.font_types.specs.Operations.{IsMulDiv, IsWrappedNear}
-use Rattle.font_types.specs.{Wrap.FitsBits, Near.Near, Near.up}
+use Rattle.font_types.specs.{Operations.IsMulDiv, Operations.IsWrappedNear, Wrap.FitsBits, Near.Near, Near.up}
 use Rattle.font_types.proofs.Callers.{near_monotone, wrap-fits}
 use Rattle.variations.specs.Variations.{Fraction, whole, part_of, times, plus, IsOffBy, IsScalarAfter, is_ignored_axis}
 use Rattle.variations.specs.Variations.{exact_axis_scalar}

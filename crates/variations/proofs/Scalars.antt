@@ -1,15 +1,14 @@
 -- The scalar of a region has one value, which the functions give.
-use Rattle.std.proofs.Common.{◌≡◌, ◌≢◌, refl, ℕ, zero, suc, ◌<◌, ◌⊎◌, Bool, true, false, ℤ, pos, negsuc}
-use Rattle.std.proofs.Common.{◌-ℤ◌, ◌*ℤ◌, ◌≤ℤ◌, ◌<ℤ◌, int_lt, int_le, arith, Decides, List, length, get_or, ⊎_elim, inl}
-use Rattle.std.proofs.Common.{inr, if◌then◌else◌, ◌||◌}
+use Rattle.std.proofs.Common.{◌≡◌, ◌≢◌, refl, ℕ, zero, suc, ◌<◌, ◌⊎◌, Bool, true, false, ℤ, pos, negsuc, ◌-ℤ◌, ◌*ℤ◌}
+use Rattle.std.proofs.Common.{◌≤ℤ◌, ◌<ℤ◌, int_lt, int_le, arith, Decides, List, length, get_or, ⊎_elim, inl, inr}
+use Rattle.std.proofs.Common.{if◌then◌else◌, ◌||◌}
 use Rattle.std.proofs.lemmas.Int.{ints, by_lt_z}
 use Rattle.std.proofs.lemmas.Bool.Decides.{Decides-or, Decides-int_eq, not_from_Decides}
 use Rattle.std.specs.Ordering.{int_eq}
 use Rattle.font_types.specs.{Operations.IsMulDiv, Near.near, F2Dot14.F2Dot14, Fixed.Fixed, Fixed.fixed_bits}
 use Rattle.font_types.proofs.Callers.{near_is}
 use Rattle.variations.specs.Variations.{IsIgnored, IsOffRegion, IsScalarAfter, is_ignored_axis, share, scalar_after}
-use Rattle.variations.specs.Variations.{IsScalarOf, scalar_of, AreScalars, IsRegionScalar}
-use Rattle.variations.specs.Variations.{region_bytes, axis_count}
+use Rattle.variations.specs.Variations.{IsScalarOf, scalar_of, AreScalars, IsRegionScalar, region_bytes, axis_count}
 
 -- ---- a share
 

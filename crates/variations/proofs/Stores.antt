@@ -1,18 +1,18 @@
 -- Products along axes and sums of columns: none, and one more; and how far they are off the exact ones.
-use Rattle.std.proofs.Common.{◌≡◌, refl, lit<, ℕ, zero, suc, ◌+◌, ◌*◌, ℤ, pos, add-one, List, ◌+ℤ◌, ◌*ℤ◌}
-use Rattle.std.proofs.Common.{unsigned_abs, arith, ◌≤◌, ◌<◌, ◌^◌, ◌≤ℤ◌, length, take, get_or}
+use Rattle.std.proofs.Common.{◌≡◌, refl, lit<, ℕ, zero, suc, ◌+◌, ◌*◌, ℤ, pos, add-one, List, ◌+ℤ◌, ◌*ℤ◌, unsigned_abs}
+use Rattle.std.proofs.Common.{arith, ◌≤◌, ◌<◌, ◌^◌, ◌≤ℤ◌, length, take, get_or}
 use Rattle.std.proofs.Math.Nat.{mul-add, zero-add}
 use Rattle.std.proofs.{lemmas.Int.ints, lemmas.Grind.common_steps, lemmas.List.get_or-take}
 use Rattle.font_types.specs.{F2Dot14.F2Dot14, Fixed.fixed_bits, Fixed.Fixed, Wrap.FitsBits}
 use Rattle.variations.specs.Variations.{IsScalarOf, IsScalarAfterAxis, IsNearScalar, exact_scalar, IsOffBy, times}
-use Rattle.variations.specs.Variations.{whole, IsSumThrough, IsTerm, IsTermProduct, IsSetSum, IsNearSetSum}
-use Rattle.variations.specs.Variations.{exact_delta, sum_halves, sum_of_magnitudes, region_bytes, region_index}
-use Rattle.variations.specs.Variations.{region_index_count, axis_count, delta_of, moved, exact_region_scalar, HasRegion}
-use Rattle.variations.specs.Variations.{region_offset, delta_place, column_place, AreScalars, IsRegionScalar, HasRow}
-use Rattle.variations.specs.Variations.{HasDelta, word_delta_count, IsNearAdvance}
+use Rattle.variations.specs.Variations.{whole, IsSumThrough, IsTerm, IsTermProduct, IsSetSum, IsNearSetSum, exact_delta}
+use Rattle.variations.specs.Variations.{sum_halves, sum_of_magnitudes, region_bytes, region_index, region_index_count}
+use Rattle.variations.specs.Variations.{axis_count, delta_of, moved, exact_region_scalar, HasRegion, region_offset}
+use Rattle.variations.specs.Variations.{delta_place, column_place, AreScalars, IsRegionScalar, HasRow, HasDelta}
+use Rattle.variations.specs.Variations.{word_delta_count, IsNearAdvance}
 use Rattle.variations.proofs.Scalars.{scalar_is, scalar_at}
-use Rattle.variations.proofs.Fractions.{IsPartOff, off_by, one_off, next_axis_off, plus_off}
-use Rattle.variations.proofs.Fractions.{scaled_off, whole_off, rounded_off}
+use Rattle.variations.proofs.Fractions.{IsPartOff, off_by, one_off, next_axis_off, plus_off, scaled_off, whole_off}
+use Rattle.variations.proofs.Fractions.{rounded_off}
 
 pub no_axis : (region : List ℕ) (coordinates : List F2Dot14) → IsScalarOf region coordinates 0 (pos 65536)
 unfolding IsScalarOf

@@ -5,8 +5,8 @@ ghost use Rattle.std.specs.Prelude.{IsSome, IfSome, IfNone, MatchOption, length,
 ghost use Rattle.std.specs.Prelude.{unsigned_abs};
 ghost use Rattle.font_types.specs.Fixed;
 ghost use Rattle.font_types.specs.{Fixed.fixed_bits, F48Dot16.f48dot16_bits, FWord.ufword_number};
-ghost use Rattle.variations.specs.Advances.{HasTarget, HasRegionList, HasData};
-ghost use Rattle.variations.specs.Advances.{regions_of, subtable_of};
+ghost use Rattle.variations.specs.Advances.{HasTarget, HasRegionList, HasData, regions_of};
+ghost use Rattle.variations.specs.Advances.{subtable_of};
 ghost use Rattle.variations.specs.Variations.{HasRegion, IsRegionScalar, HasRow, row_bytes};
 ghost use Rattle.variations.specs.Variations.{word_delta_count, region_index_count, IsNoVariation};
 ghost use Rattle.variations.specs.Variations.{HasNoVaried, HasSet, IsVaried, HasTerm, IsTerm};

@@ -5,9 +5,8 @@ ghost use Rattle.std.specs.Prelude.{IsTrue, IsSome, IfSome, IfNone, length, take
 ghost use Rattle.font_types.specs.Operations.{IsMulDiv};
 ghost use Rattle.font_types.specs.Fixed;
 ghost use Rattle.font_types.specs.{Fixed.fixed_bits, F2Dot14.f2dot14_bits};
-ghost use Rattle.variations.specs.Variations.{IsIgnored, IsOffRegion, IsScalarAfter};
-ghost use Rattle.variations.specs.Variations.{IsAxisScalar, HasRegion};
-ghost use Rattle.variations.specs.Variations.{axis_count, region_bytes, stored_bits};
+ghost use Rattle.variations.specs.Variations.{IsIgnored, IsOffRegion, IsScalarAfter, IsAxisScalar};
+ghost use Rattle.variations.specs.Variations.{HasRegion, axis_count, region_bytes, stored_bits};
 ghost use Rattle.variations.specs.Variations.{coordinate_bits, IsScalarAfterAxis, IsScalarOf};
 ghost use Rattle.variations.specs.Variations.{IsNearScalar, IsRegionScalar, IsNearRegionScalar};
 ghost use Rattle.variations.specs.Variations.{AreScalars};

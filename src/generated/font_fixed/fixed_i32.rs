@@ -427,8 +427,8 @@ where
         }
     }
 
-    /// Returns the shortest decimal that parses back to the value, which is also what `{}` prints, in
-    /// a buffer.
+    /// Returns the shortest decimal that parses back to the value, which is also what `{}` prints,
+    /// in a buffer.
     ///
     /// `fixedToStr` of fontTools computes its text from a float instead.
     ///

@@ -36,8 +36,8 @@ pub const TTC_HEADER_TAG: Tag = Tag([0x74, 0x74, 0x63, 0x66]);
 /// A four-byte identifier of a table, script, feature, axis and so on.
 ///
 /// A valid tag is one to four printable ASCII characters, padded to four bytes with spaces. Fonts
-/// may contain invalid ones, so a `Tag` can have any four bytes: [`Tag::new_checked`] accepts only valid
-/// ones, and [`Tag::validate`] checks a tag.
+/// may contain invalid ones, so a `Tag` can have any four bytes: [`Tag::new_checked`] accepts only
+/// valid ones, and [`Tag::validate`] checks a tag.
 ///
 /// ```
 /// use font_types_proved::{InvalidTag, Tag};

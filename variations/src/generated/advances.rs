@@ -56,8 +56,8 @@ fn glyph_set(hvar: &[u8], glyph: u16) -> Option<DeltaSetIndex> {
 }
 
 /// Finds the item variation store of a table `HVAR`, and the indices of the delta set of a glyph's
-/// advance, which the store may not have. Returns `None` if the offset of the store is null, an
-/// offset points past the end, or the map of glyphs has no entry.
+/// advance, which the store may not have. Returns `None` if the table is too short, the offset of
+/// the store is null, an offset points past the end, or the map of glyphs has no entry.
 ///
 /// The version of the table is not read: it has to be 1.
 ///

@@ -1,10 +1,11 @@
 use Rattle.std.proofs.Common.{◌≡◌, ℕ, ◌≤◌, ◌+◌, ◌-◌, ◌*◌, ◌/◌, ◌%◌, ◌^◌, arith, sym, ◌∙◌, true≢false, min, length, drop}
 use Rattle.std.proofs.Common.{get_or, mod-eq_of_lt, []}
-use Rattle.std.proofs.{lemmas.List.drop_all, lemmas.List.drop_more, lemmas.Str.digit_value_digit, lemmas.Str.Parse.digit_at}
-use Rattle.std.proofs.Math.Nat.{pow-le-pow_right, mul-le-mul}
+use Rattle.std.proofs.{lemmas.List.drop_all, lemmas.List.drop_more, lemmas.Str.digit_value_digit}
+use Rattle.std.proofs.{lemmas.Str.Parse.digit_at, Math.Nat.pow-le-pow_right, Math.Nat.mul-le-mul}
 use Rattle.std.specs.{Char.digit_value, Str.Parse.AllDigits}
 use Rattle.font_decimal.proofs.{Digits.digits_parts, Digits.by_test, Units.units_more, Units.units_cut}
-use Rattle.font_decimal.{proofs.Units.units_below, proofs.Units.at_cut, proofs.Units.units_by_fives, specs.Reading.HasUnits}
+use Rattle.font_decimal.{proofs.Units.units_below, proofs.Units.at_cut, proofs.Units.units_by_fives}
+use Rattle.font_decimal.{specs.Reading.HasUnits}
 use Rattle.font_decimal.proofs.reader.half_units.Goals as goal
 use Rattle.font_decimal.proofs.reader.half_units.Goals.{then-fraction-most, else-fraction-most}
 
@@ -35,7 +36,8 @@ pub loop-place-init : goal.loop-place-init
 loop-place-init c =
     let kept = c.split_at.result.0.now in
     let none : drop (length kept) kept ≡ [] = drop_all (length kept) kept (omega arith) in
-    let found : HasUnits (c.args.f + 1) (drop (length kept) kept) 0 = rw none (record { digits = tt; floor = omega arith }) in
+    let found : HasUnits (c.args.f + 1) (drop (length kept) kept) 0 =
+    rw none (record { digits = tt; floor = omega arith }) in
     record { found = found; fifths = units_by_fives (c.args.f + 1) _ found; within = omega arith }
 
 pub loop-place-preserved : goal.loop-place-preserved
@@ -47,8 +49,9 @@ loop-place-preserved c =
     let digit = c.if-not-is_ascii_digit.ensures.cases in
     let next : at + 1 ≡ l.place = omega arith in
     let value : digit_value byte ≡ byte - 48 = omega (arith, digit_value_digit byte digit) in
+    let fits = product_fits (byte - 48) c.args.f (omega (arith, digit)) (omega (arith, c.requires)) in
     let shifted : (byte - 48) * 2 ^ (c.args.f + 1) % 2 ^ 64 ≡ (byte - 48) * 2 ^ (c.args.f + 1) =
-    mod-eq_of_lt (omega (arith, product_fits (byte - 48) c.args.f (omega (arith, digit)) (omega (arith, c.requires)))) in
+    mod-eq_of_lt (omega (arith, fits)) in
     let units = (byte - 48) * 2 ^ (c.args.f + 1) % 2 ^ 64 + l.units in
     let found : HasUnits (c.args.f + 1) (drop at kept) (units / 10) =
     rw (shifted, drop_more kept at 0 (omega (arith, l.invariant.within)), next)

@@ -8,8 +8,8 @@ returns-clause-value c =
     let first = c.in_ok-x.ensures in
     let image = c.in_ok-x-2.ensures in
     checked_in_turn_value (matrix_bits c.args.a) (matrix_bits c.args.b) (point_bits c.args.p)
-    (point_bits (record { x = c.in_ok-x.x; y = c.in_ok-x.y })) (point_bits c.new.result) first.value (ap point_bits c.new.ensures ∙ image.value) (first.variant.0 refl)
-    (image.variant.0 refl)
+    (point_bits (record { x = c.in_ok-x.x; y = c.in_ok-x.y })) (point_bits c.new.result) first.value
+    (ap point_bits c.new.ensures ∙ image.value) (first.variant.0 refl) (image.variant.0 refl)
 
 pub returns-clause-close : goal.returns-clause-close
 returns-clause-close c =

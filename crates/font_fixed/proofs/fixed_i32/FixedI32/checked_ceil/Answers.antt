@@ -13,7 +13,8 @@ returns-in-None-clause-variant g c =
 
 pub returns-in-Some-clause-variant : goal.returns-in-Some-clause-variant
 returns-in-Some-clause-variant g c =
-    let ceiling = ceiling_is w32 _ g.row.F (bits_of c.args.self) _ _ refl (search rules) (search rules) c.floor.ensures in
+    let ceiling =
+    ceiling_is w32 _ g.row.F (bits_of c.args.self) _ _ refl (search rules) (search rules) c.floor.ensures in
     search (rules, ceiling.is)
 
 pub returns-in-Some-clause-value : goal.returns-in-Some-clause-value
