@@ -17,6 +17,13 @@ class Quotient(NamedTuple):
     divisor: BitVecRef
 
 
+def order(factor: BitVecRef) -> tuple[bool, int]:
+    """Orders two factors: an argument first, so that a product of it and of a term, which may be
+    written in two ways, is one function of both."""
+    of = factor.arg(0) if z3.is_app_of(factor, z3.Z3_OP_SIGN_EXT) else factor
+    return not z3.is_const(of), int(z3.simplify(factor).hash())
+
+
 class Arithmetic:
     """A product or a quotient of two unknowns is an unknown function of them. What is proved of
     every function with the facts is proved of the real one, because the facts are true of it.
@@ -80,7 +87,7 @@ class Arithmetic:
         width, greatest = a.size(), self.greatest(a) * self.greatest(b)
         if self.exact or is_constant(a) or is_constant(b):
             return self.keep(a * b, greatest) if greatest < 1 << width else a * b
-        a, b = sorted((a, b), key=lambda it: int(z3.simplify(it).hash()))
+        a, b = sorted((a, b), key=order)
         node, is_new = self.unknown("product", operator.mul, a, b, min(greatest, (1 << width) - 1))
         if greatest < 1 << width and is_new:
             self.facts.append(z3.ULE(node, greatest))

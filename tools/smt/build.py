@@ -1,5 +1,7 @@
-"""Compiles the package, with a wrapper for each function, to LLVM's IR and to a library."""
+"""Compiles the package and the exports for C, with a wrapper for each function, to LLVM's IR and to
+a library."""
 
+import re
 import shutil
 import subprocess
 from pathlib import Path
@@ -69,11 +71,30 @@ def wrapper(case: Case) -> str:
     )
 
 
+def exports(room: Path) -> tuple[str, str]:
+    """Returns the exports as a module of the package, and as foreign functions of the wrappers, which
+    call them by their names."""
+    own = re.findall(r"^unsafe fn .*?^}$", (room / "lib.rs").read_text(), re.M | re.S)
+    module = "\n".join([
+        "use core::slice::{from_raw_parts, from_raw_parts_mut};", *own,
+        '#[path = "../c/generated/font_c/mod.rs"] pub mod font_c;',
+    ])  # fmt: skip
+    texts = (it.read_text() for it in sorted((room / "generated").rglob("*.rs")))
+    heads = (re.findall(r'^pub (?:unsafe )?extern "C" (fn [^{;]*?) {$', it, re.M) for it in texts)
+    foreign = "".join(f"{head};\n" for of in heads for head in of)
+    return (
+        module,
+        f'use font_c::{{FontMatrix, FontPad, FontPoint}};\nunsafe extern "C" {{ {foreign} }}\n',
+    )
+
+
 def compiled(tree: Path, room: Path, wrappers: str, options: list[str]) -> str:
     """Returns the IR of a copy of the package in a room, with wrappers."""
     shutil.copytree(tree / "src", room / "src")
+    shutil.copytree(tree / "c/src", room / "c")
+    module, foreign = exports(room / "c")
     with (room / "src/lib.rs").open("a") as lib:
-        lib.write(f"{HEAD}{wrappers}}}\n")
+        lib.write(f"{module}{HEAD}{foreign}{wrappers}}}\n")
     command = ["rustc", *COMMON, *options, "--out-dir", str(room), str(room / "src/lib.rs")]
     done = subprocess.run(command, capture_output=True, text=True)
     if done.returncode:

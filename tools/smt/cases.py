@@ -5,6 +5,7 @@ import fixed as fixed
 import geometry as geometry
 import ids as ids
 import scalars as scalars
+import exports as exports  # isort: skip
 from row import CASES as CASES
 from row import FORMATS as FORMATS
 from row import Case as Case

@@ -235,6 +235,8 @@ class Machine:
     def argument(self, text: str, state: State) -> Value:
         type_, rest = take_type(text)
         attributes, rest = take_attributes(rest)
+        if attributes.byval:
+            raise Unsupported(f"a copy of {rest}, which is passed")
         return self.promised(self.value(type_, rest, state), attributes, state)
 
     def call(

@@ -76,12 +76,13 @@ def report(tree: Path, only: str) -> int:
         if not re.search(only, edit.name):
             continue
         verdict, shown = edit.reason or "", ""
-        if not verdict and not edit.file.startswith("src/"):
+        if not verdict and not edit.file.startswith(("src/", "c/src/")):
             verdict = "of another package"
         if not verdict:
             with tempfile.TemporaryDirectory() as room:
                 copy = Path(room)
-                shutil.copytree(tree / "src", copy / "src")
+                for part in ("src", "c/src"):
+                    shutil.copytree(tree / part, copy / part)
                 text = (copy / edit.file).read_text()
                 for start, end, new in sorted(edit.changes, reverse=True):
                     text = text[:start] + new + text[end:]

@@ -42,34 +42,53 @@ def product(p: Products, *v: Any) -> dict[str, Any]:
             for name in ENTRIES}
 
 
+def image(p: Products, *v: Any) -> list[Any]:
+    """The coordinates of a point that a matrix moves, and of a point that it moved."""
+    return [p.result(it) for it in moved(p, *v)]
+
+
+def composed(p: Products, *v: Any) -> list[Any]:
+    """The image by a product of two matrices."""
+    return image(p, *(p.result(it) for it in product(p, *v[:12]).values()), *v[12:])
+
+
+def in_turn(p: Products, *v: Any) -> list[Any]:
+    """The image by a matrix of the image by another."""
+    return image(p, *v[:6], *image(p, *v[6:]))
+
+
+def all_of(p: Products, *v: Any) -> list[list[Any]]:
+    """The numbers of `composed` and of `in_turn` that have to fit, each with those after it."""
+    entries = list(product(p, *v[:12]).values())
+    return [entries + moved(p, *map(p.result, entries), *v[12:]),
+            moved(p, *v[6:]) + moved(p, *v[:6], *image(p, *v[6:]))]
+
+
 def bounds() -> Iterator[tuple[str, BoolRef]]:
-    """How far the rules above are from the exact images, of all integers. Where all fits, by FITS,
-    the wrapped numbers are these: so this is of `checked_transform`, `checked_mul` and
-    `checked_image`, and of the laws. Both sides are times 2^16, and of two matrices times 2^32."""
+    """How far the results of the rows of laws below are from the exact images, if each number that
+    is held in 32 bits fits. Both sides are times 2^16, and of two matrices times 2^32."""
     a, b = (z3.Ints(" ".join(of + it for it in ENTRIES)) for of in "ab")
     x, y = z3.Ints("x y")
-    m, image = dict(zip(ENTRIES, a)), list[z3.ArithRef]()
+    m, by_b = dict(zip(ENTRIES, a)), list[z3.ArithRef]()
     size = lambda n: z3.If(n < 0, -n, n)
     of_b = dict(zip(ENTRIES, b))
     for s, t, plus in ROWS.values():
-        image.append(of_b[s] * x + of_b[t] * y + of_b[plus] * 2**16)
+        by_b.append(of_b[s] * x + of_b[t] * y + of_b[plus] * 2**16)
     for i, (s, t, plus) in enumerate(ROWS.values()):
         u, v, d = m[s], m[t], m[plus]
-        twice = u * image[0] + v * image[1] + d * 2**32
-        for name, by, exact, bound, find in (
-            ("IMAGE", 16, u * x + v * y + d * 2**16, 2**16, lambda p: moved(p, *a, x, y)),
-            ("COMPOSED", 32, twice, 2**16 * (size(x) + size(y)) + 2 * 2**32,
-             lambda p: moved(p, *product(p, *a, *b).values(), x, y)),
-            ("IN TURN", 32, twice, 2**16 * (size(u) + size(v)) + 2**32,
-             lambda p: moved(p, *a, *moved(p, *b, x, y))),
+        twice = u * by_b[0] + v * by_b[1] + d * 2**32
+        for name, by, exact, bound, law, of in (
+            ("IMAGE", 16, u * x + v * y + d * 2**16, 2**16, image, a),
+            ("COMPOSED", 32, twice, 2**16 * (size(x) + size(y)) + 2 * 2**32, composed, a + b),
+            ("IN TURN", 32, twice, 2**16 * (size(u) + size(v)) + 2**32, in_turn, a + b),
         ):
             p = Exact()
-            error = find(p)[i] * 2**by - exact
-            # Those of which the error is: a rounded product may be of another.
+            error = law(p, *of, x, y)[i] * 2**by - exact
+            # What the error depends on: a rounded product may be of another.
             known: list[BoolRef] = []
             for q, it in reversed(p.known.items()):
                 if any(q.eq(of) for of in subterms([error, *known])):
-                    known.append(it)
+                    known += [it, *([p.fit[q]] if q in p.fit else [])]
             yield f"{name} {'xy'[i]}", z3.Implies(
                 z3.And(known), z3.And(error <= bound, -error <= bound))
 
@@ -103,17 +122,17 @@ for m, n in zip(ENTRIES[::2], ENTRIES[1::2]):
          lambda p, *v, m=m, n=n: (lambda it: some(all_fit(*it.values()), two(it[m], it[n])))(
              product(p, *v)))
 
-point = "Point::new(Fixed::from_bits(x), Fixed::from_bits(y))"
-for i, axis in enumerate("xy"):
-    # By the lemmas of `bounds`, these are within the bounds, where all fits. `composed` is the rows
-    # of `Matrix * Matrix` and of `Matrix * Point` after each other.
-    case(f"laws::image, {axis}", entries("a") + ", x: i32, y: i32", "i32",
-         f"laws::image({matrix('a')}, {point}).{axis}.to_bits()",
-         lambda p, *v, i=i: wrap(32, moved(p, *v)[i]))
-    case(f"laws::in_turn, {axis}", given + ", x: i32, y: i32", "i32",
-         f"laws::in_turn({matrix('a')}, {matrix('b')}, {point}).{axis}.to_bits()",
-         lambda p, *v, i=i: wrap(32, moved(
-             p, *v[:6], *(wrap(32, it) for it in moved(p, *v[6:])))[i]))
+# The lemmas of `bounds` are of these.
+for law, matrices, has in ((image, "a", 6), (composed, "ab", 12), (in_turn, "ab", 12)):
+    given = ", ".join(map(entries, matrices)) + ", x: i32, y: i32"
+    call = f"{law.__name__}({', '.join(map(matrix, matrices))}, {SPOTS[0]})"
+    for i, axis in enumerate("xy"):
+        case(f"laws::{law.__name__}, {axis}", given, "i32", f"laws::{call}.{axis}.to_bits()",
+             lambda p, *v, i=i, law=law: law(p, *v)[i])
+for i, name in enumerate(("composed", "in_turn")):
+    case(f"laws::checked_{name}", given, "?u64",
+         f"laws::checked_{name}({matrix('a')}, {matrix('b')}, {SPOTS[0]}).map(|it| {BOTH})",
+         lambda p, *v, i=i: (lambda n: some(all_fit(*n), two(*n[-2:])))(all_of(p, *v)[i]))
 
 
 # ---------------------------------------------------------------- scales

@@ -27,6 +27,7 @@ class Attributes(NamedTuple):
     nonnull: bool = False
     range: tuple[int, int] | None = None
     align: int = 1
+    byval: bool = False
 
 
 class Instruction(NamedTuple):
@@ -97,6 +98,8 @@ def take_attributes(text: str) -> tuple[Attributes, str]:
             kept = kept._replace(noundef=True)
         elif found[2] == "nonnull":
             kept = kept._replace(nonnull=True)
+        elif found[2] == "byval":
+            kept = kept._replace(byval=True)
         elif found[2] not in PASSED_OVER:
             raise Unsupported(f"attribute `{found[0]}`")
         text = text[found.end() :]

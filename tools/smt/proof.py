@@ -20,7 +20,7 @@ from ir import Module
 from loops import Loops
 from execution import End, Machine
 from memory import Slice
-from rules import Products, Sums, Text, use_width
+from rules import Products, Sums, Text, overflows, use_width
 from state import LIMIT, QUICK, Goals
 from values import constant, number_of
 
@@ -77,7 +77,15 @@ class Proof:
             is_met = is_met or self.solver(conditions, self.arithmetic.facts).check() == z3.sat
         if not is_met:
             raise Unknown("no argument is known for which it returns")
+        self.refute("the rule overflows", [overflows(self.rule(end))])
         self.check_facts()
+
+    def rule(self, end: End) -> list[Any]:
+        """Returns the rule, of any result of a relation."""
+        if not self.case.is_relation:
+            return [self.case.rule(self.products, *self.given.of_rule)]
+        result = z3.BitVec("result", result_width(self.case))
+        return list(self.right(self.products, self.given, result, end))
 
     def right(
         self, products: Products, given: Inputs, result: Any, end: End | None = None

@@ -13,7 +13,7 @@ OPTIONS = """--crate-type lib -C opt-level=0 -C no-prepopulate-passes -C debugin
 
 # A file, its line, and numbers of fraction bits of the types in the name.
 Called = tuple[str, int, list[int]]
-FUNCTION = re.compile(r'linkageName: "(\w+)".*? file: (!\d+), line: (\d+)')
+FUNCTION = re.compile(r'[nN]ame: "(\w+)", scope: !\d+, file: (!\d+), line: (\d+)')
 
 
 def called(tree: Path) -> list[tuple[str, list[Called]]]:
@@ -22,7 +22,7 @@ def called(tree: Path) -> list[tuple[str, list[Called]]]:
     with tempfile.TemporaryDirectory() as room:
         ir = build.compiled(tree, Path(room), table.wrappers(rows), OPTIONS)
     files = dict(
-        re.findall(r'^(!\d+) = !DIFile\(filename: "[^"]*/src/generated/([^"]*)"', ir, re.M)
+        re.findall(r'^(!\d+) = !DIFile\(filename: "[^"]*/(?:src|c)/generated/([^"]*)"', ir, re.M)
     )
     places = {
         name: (

@@ -1,16 +1,19 @@
 """What the functions have to do, as docs/PROMISES.md and OpenType say it. Whoever trusts the proof
 has to agree with this page and with `cases.py`.
 
-A number is a vector of W bits, which is read as a signed integer. No sum or product below reaches
-2^(W-1), so that this is arithmetic of integers. A division by 2^k is a shift: `>>` rounds down."""
+A number is a vector of W bits, which is read as a signed integer. A division by 2^k is a shift: `>>`
+rounds down. No sum or product of a rule reaches 2^(W-1), which is a goal of each row, by `overflows`:
+so this is arithmetic of integers."""
 
-from collections.abc import Callable, Iterator, Sequence
+from collections.abc import Callable, Iterable, Iterator, Sequence
 from typing import NamedTuple
 
 import z3
 from z3 import BitVecRef, BoolRef
 
 from arithmetic import Arithmetic
+from integers import subterms
+from values import Unsupported, is_constant
 
 W = 90
 
@@ -37,6 +40,37 @@ def N(number: int) -> BitVecRef:
 def B(condition: BoolRef) -> BitVecRef:
     """A `bool` of Rust."""
     return z3.If(condition, z3.BitVecVal(1, 1), z3.BitVecVal(0, 1))
+
+
+# What has no sum or product of its own.
+PARTS = (
+    z3.Z3_OP_SIGN_EXT, z3.Z3_OP_ZERO_EXT, z3.Z3_OP_BNUM, z3.Z3_OP_ITE, z3.Z3_OP_CONCAT,
+    z3.Z3_OP_EXTRACT, z3.Z3_OP_UNINTERPRETED, z3.Z3_OP_BAND,
+)  # fmt: skip
+
+
+def overflows(terms: Iterable[BitVecRef | BoolRef]) -> BoolRef:
+    """Whether a sum, difference or product of W bits is not that of the integers."""
+    wrong, most = [z3.BoolVal(False)], 1 << W - 1
+    for it in subterms(terms):
+        if not z3.is_bv(it) or it.size() != W:
+            continue
+        parts, kind = it.children(), it.decl().kind()
+        if kind in (z3.Z3_OP_BADD, z3.Z3_OP_BSUB) and len(parts) == 2:
+            wide = [z3.SignExt(1, part) for part in (*parts, it)]
+            total = wide[0] + wide[1] if kind == z3.Z3_OP_BADD else wide[0] - wide[1]
+            wrong.append(total != wide[2])
+        elif kind == z3.Z3_OP_BNEG:
+            wrong.append(parts[0] == N(-most))
+        elif kind in (z3.Z3_OP_BMUL, z3.Z3_OP_BSHL) and any(map(is_constant, parts)):
+            n, by = sorted(parts, key=is_constant)
+            factor = by.as_signed_long() if kind == z3.Z3_OP_BMUL else 1 << by.as_long()
+            if factor <= 0 or n is parts[1] and kind == z3.Z3_OP_BSHL:
+                raise Unsupported(f"{it} in a rule")
+            wrong.append(z3.Or(n > N((most - 1) // factor), n < N(-(most // factor))))
+        elif kind not in PARTS and not (kind == z3.Z3_OP_BASHR and is_constant(parts[1])):
+            raise Unsupported(f"{it.decl()} in a rule")
+    return z3.Or(wrong)
 
 
 # ---------------------------------------------------------------- ranges
@@ -134,6 +168,10 @@ class Products:
     def number(self, x: BitVecRef) -> BitVecRef:
         return S(x)
 
+    def result(self, n: BitVecRef) -> BitVecRef:
+        """A number as 32 bits hold it."""
+        return wrap(32, n)
+
     def quotients(
         self, x: BitVecRef, a: BitVecRef, c: BitVecRef
     ) -> list[tuple[BitVecRef, BoolRef]]:
@@ -162,10 +200,12 @@ class Products:
 
 
 class Exact(Products):
-    """Of integers: by NEAR, a rounded product is any within a half of the product."""
+    """Of integers: by NEAR, a rounded product is any within a half of the product, and by FITS, a
+    number that fits in 32 bits is as they hold it."""
 
     def __init__(self) -> None:
         self.known: dict[z3.ArithRef, BoolRef] = {}
+        self.fit: dict[z3.ArithRef, BoolRef] = {}
 
     def rounded(self, x: z3.ArithRef, y: z3.ArithRef) -> z3.ArithRef:
         q = z3.Int(f"q{len(self.known)}")
@@ -175,6 +215,13 @@ class Exact(Products):
 
     def number(self, x: z3.ArithRef) -> z3.ArithRef:
         return x
+
+    def result(self, n: z3.ArithRef) -> z3.ArithRef:
+        held = z3.Int(f"q{len(self.known)}")
+        # That n is at least -2^31, and less than 2^31.
+        self.fit[held] = z3.Bool(f"fits{held}")
+        self.known[held] = z3.Implies(self.fit[held], held == n)
+        return held
 
 
 def scaled(p: Products, x: BitVecRef, a: BitVecRef, c: BitVecRef, result: BitVecRef) -> BoolRef:

@@ -112,6 +112,9 @@ def shift(machine: Machine, it: Instruction, state: State) -> Value:
     a, b = map(number_of, pair(machine, text, state))
     x, by, known = a.bits, b.bits, machine.arithmetic
     bits = x << by if it.op == "shl" else z3.LShR(x, by) if it.op == "lshr" else x >> by
+    if it.op == "ashr" and is_constant(by) and z3.is_app_of(x, z3.Z3_OP_BSHL) and x.arg(1).eq(by):
+        # The lower bits of a number, as a signed number.
+        bits = extend(True, x.size(), z3.Extract(x.size() - 1 - by.as_long(), 0, x.arg(0)))
     back = {"nsw": bits >> by, "nuw": z3.LShR(bits, by), "exact": bits << by}
     wrong = [z3.UGE(by, x.size()), *(back[flag] != x for flag in sorted(flags))]
     if is_constant(by) and not is_constant(x) and by.as_long() < x.size():

@@ -12,6 +12,7 @@ from collections.abc import Iterator
 
 ROOT = pathlib.Path(__file__).resolve().parents[2]
 SOURCE = ROOT / "src/generated"
+EXPORTS = ROOT / "c/src/generated"
 
 # Of a type with several formats, the fraction bits of each.
 FORMATS = {"FixedI16": {14, 12, 10}, "FixedI32": {16, 6, 30}, "FixedI64": {16}}
@@ -64,6 +65,15 @@ def functions() -> Iterator[Function]:
                 yield Function(path.relative_to(SOURCE), number + 1, outer, hidden + found[0])
 
 
+def exports() -> Iterator[tuple[str, str, tuple[str, int]]]:
+    """Yields the exports for C: the name, the parameters, and the file and line."""
+    for path in sorted(EXPORTS.rglob("*.rs")):
+        text = path.read_text()
+        for it in re.finditer(r'^pub (?:unsafe )?extern "C" fn (\w+)(\([^)]*\))', text, re.M):
+            line = text.count("\n", 0, it.start()) + 1
+            yield it[1], it[2], (str(path.relative_to(EXPORTS)), line)
+
+
 def calls() -> dict[tuple[str, int], set[int]]:
     """Returns the functions that rows call, by file and line, with the fraction bits of their
     types."""
@@ -89,3 +99,14 @@ class SecondProof(unittest.TestCase):
         table = dict(re.findall(r"^\| (.*) \| (\d+) \|$", page.split("\n\n")[0], re.M))
         counts = collections.Counter(place for place, _ in places)
         self.assertEqual({place: str(count) for place, count in counts.items()}, table)
+
+    def test_each_export_of_numbers_has_a_row(self) -> None:
+        """Those without a row take an array, or nothing. EVIDENCE lists them."""
+        known, every = calls(), list(exports())
+        sources = (it.read_text() for it in EXPORTS.rglob("*.rs"))
+        self.assertEqual(len(every), sum(it.count("#[unsafe(no_mangle)]") for it in sources))
+        without = {name: parameters for name, parameters, at in every if at not in known}
+        page = (ROOT / "docs/EVIDENCE.md").read_text().split("does not show:")[1].split(";")[0]
+        self.assertEqual(sorted(without), sorted(re.findall(r"`(fty_\w+)`", page)))
+        for name, parameters in without.items():
+            self.assertRegex(parameters, r": \*(const|mut) |^\(\)$", name)

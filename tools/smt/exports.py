@@ -1,0 +1,96 @@
+"""Rows of the exports of the library for C, called by their names, by the rules of the Rust that
+they call."""
+
+from typing import Any
+
+import z3
+from z3 import BitVecRef, BoolRef
+
+from geometry import ENTRIES, entries, image, product
+from row import CASES, Rule, case
+from rules import S, U, Text, checked_tag, fits, fits_unsigned, up, validated, wrap
+
+# fmt: off
+RUST = {it.name: it for it in CASES}
+OUT_OF_RANGE = 2
+# The status of each kind of an answer on a tag: none, a length, a byte, a byte after a space.
+TAG = (0, 10, 11, 12)
+
+
+def as_rust(name: str, call: str) -> None:
+    """A row of the same parameters and rule as one of Rust."""
+    CASES.append(RUST[name]._replace(
+        name=call, body=f"unsafe {{ {call} }}", symbol=f"case{len(CASES)}"))
+
+
+for it, T in (("fixed", "Fixed"), ("f26dot6", "F26Dot6")):
+    as_rust(f"{T} *", f"fty_{it}_mul(x, y)")
+    as_rust(f"{T} /", f"fty_{it}_div(x, y)")
+as_rust("Fixed::mul_div", "fty_fixed_mul_div(x, a, c)")
+
+
+def stores(call: str, parameters: str, type_: str, rule: Rule) -> None:
+    """An export that returns a status, and stores a number at its last argument: both, in this order
+    from the top. What is there before is `old`."""
+    width = int(type_[1:])
+    case(call, f"{parameters}, old: {type_}", "u64",
+         f"unsafe {{ let mut old = old; (({call}) as u64) << 32 | old as u{width} as u64 }}", rule)
+
+
+def answer(status: BitVecRef, stored: BitVecRef) -> BitVecRef:
+    return z3.Concat(status, z3.ZeroExt(32 - stored.size(), stored))
+
+
+def moved_by_delta(i: str) -> None:
+    """By the rule of `checked_add_delta`. If it fails, what was there stays."""
+    number, fit = (S, fits) if i == "i16" else (U, fits_unsigned)
+    total = lambda x, y: up(number(x) * 65536 + S(y), 16)
+    stores(f"fty_apply_delta_{i}(x, y, &mut old)", f"x: {i}, y: i64", i,
+           lambda p, x, y, old: z3.If(
+               fit(16, total(x, y)), answer(z3.BitVecVal(0, 32), wrap(16, total(x, y))),
+               answer(z3.BitVecVal(OUT_OF_RANGE, 32), old)))
+
+
+moved_by_delta("i16")
+moved_by_delta("u16")
+
+
+def status(kind: BitVecRef) -> BitVecRef:
+    found = z3.BitVecVal(TAG[0], 32)
+    for i, it in enumerate(TAG):
+        found = z3.If(kind == i, z3.BitVecVal(it, 32), found)
+    return found
+
+
+def validate(p: Any, tag: BitVecRef, old: BitVecRef) -> BitVecRef:
+    """Of an invalid byte its index is stored."""
+    of_tag = validated(p, *(z3.Extract(i + 7, i, tag) for i in (24, 16, 8, 0)))
+    kind = z3.Extract(63, 60, of_tag)
+    return answer(status(kind), z3.If(z3.UGE(kind, 2), wrap(32, of_tag) & 3, old))
+
+
+def new_tag(p: Any, text: Text, old: BitVecRef) -> BitVecRef:
+    of_text = checked_tag(p, text)
+    kind = z3.Extract(63, 60, of_text)
+    return answer(status(kind), z3.If(kind == 0, wrap(32, of_text), old))
+
+
+stores("fty_tag_validate(tag, &mut old)", "tag: u32", "u32", validate)
+stores("fty_tag_new(text.as_ptr(), text.len(), &mut old)", "text: bytes", "u32", new_tag)
+
+matrix = lambda of: "FontMatrix { " + ", ".join(f"{it}: {of}{it}" for it in ENTRIES) + " }"
+both = "(it.{} as u32 as u64) << 32 | it.{} as u32 as u64"
+pair = lambda x, y: z3.Concat(wrap(32, x), wrap(32, y))
+for m, n in zip(ENTRIES[::2], ENTRIES[1::2]):
+    case(f"fty_matrix_product(a, b), {m} and {n}", f"{entries('a')}, {entries('b')}", "u64",
+         f"{{ let it = unsafe {{ fty_matrix_product({matrix('a')}, {matrix('b')}) }};"
+         f" {both.format(m, n)} }}",
+         lambda p, *v, m=m, n=n: (lambda it: pair(it[m], it[n]))(product(p, *v)))
+point = lambda call: f"{{ let it = unsafe {{ {call}({matrix('a')}, FontPoint {{ x, y }}) }}; {both.format('x', 'y')} }}"
+given = f"{entries('a')}, x: i32, y: i32"
+case("fty_matrix_image(m, p)", given, "u64", point("fty_matrix_image"),
+     lambda p, *v: z3.Concat(*image(p, *v)))
+# A vector is not shifted.
+case("fty_matrix_vector(m, v)", given, "u64", point("fty_matrix_vector"),
+     lambda p, *v: z3.Concat(*image(p, *v[:4], z3.BitVecVal(0, 32), z3.BitVecVal(0, 32), *v[6:])))
+# fmt: on
