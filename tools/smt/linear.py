@@ -83,7 +83,10 @@ class Linear(Integers):
 
     def masked(self, n: ArithRef, bounds: Bounds, mask: int) -> ArithRef:
         low = mask & -mask
-        rest = self.parts(n, bounds, (mask + low) & -(mask + low))[1]
-        if self.twos.get(str(rest), 0) >= twos(low):
-            return rest
+        above = mask + low
+        # The bits of another mask are not all neighbors.
+        if above & above - 1 == 0:
+            rest = self.parts(n, bounds, above)[1]
+            if self.twos.get(str(rest), 0) >= twos(low):
+                return rest
         return super().masked(n, bounds, mask)
