@@ -17,7 +17,9 @@ class Linear(Integers):
 
     def __init__(self) -> None:
         super().__init__()
-        self.named: dict[tuple[str, int], tuple[ArithRef, ArithRef]] = {}
+        # By the identity of what is divided, which is kept, and the divisor: a long term's text ends
+        # in dots, so that two terms can have the same.
+        self.named: dict[tuple[int, int], tuple[ArithRef, ArithRef, ArithRef]] = {}
         self.defined: dict[str, BoolRef] = {}
         # How often 2 divides a name, at least.
         self.twos: dict[str, int] = {}
@@ -61,15 +63,15 @@ class Linear(Integers):
             return multiple, left
         if z3.is_int_value(multiple) and multiple.as_long() == 0:
             low, high = max(low, bounds[0]), min(high, bounds[1])
-        key = str(left), by
+        key = left.get_id(), by
         if key not in self.named:
             q, r = (z3.Int(f"{it}{len(self.named)}") for it in ("quotient", "remainder"))
-            self.named[key] = q, r
+            self.named[key] = q, r, left
             definition = z3.And(left == by * q + r, 0 <= r, r < by)
             self.defined |= {str(q): definition, str(r): definition}
             self.twos[str(r)] = min(divides, twos(by))
             self.bounds |= {str(q): (low // by, high // by), str(r): (0, by - 1)}
-        q, r = self.named[key]
+        q, r, _ = self.named[key]
         return multiple + q, r
 
     def about(self, name: str) -> list[BoolRef]:
