@@ -288,10 +288,11 @@ class Parsing:
         wrong = self.of_integers(z3.Not(self.invariant(loop, *now)))
         self.refute(f"the invariant of the loop `{loop}`", [*state.conditions, wrong])
         if state.visits[block] > 1:
-            before = number_of(state.names[name]).bits
+            # Of integers, because an index of few bits may wrap.
+            before = self.integers.number(z3.simplify(number_of(state.names[name]).bits))
             by = -1 if loop == "kept" else 1
-            turn = [*state.conditions, numbers[0].bits != before + by]
-            self.refute("a turn of a loop does not go on", turn)
+            stays = self.of_integers(now[0] != before + by)
+            self.refute("a turn of a loop does not go on", [*state.conditions, stays])
             if state.memory != self.memory:
                 raise Unsupported("a loop that stores")
             return None
