@@ -293,7 +293,8 @@ class Parsing:
             by = -1 if loop == "kept" else 1
             stays = self.of_integers(now[0] != before + by)
             self.refute("a turn of a loop does not go on", [*state.conditions, stays])
-            if state.memory != self.memory:
+            same = [state.memory.get(it) is known for it, known in self.memory.items()]
+            if len(same) != len(state.memory) or not all(same):
                 raise Unsupported("a loop that stores")
             return None
         state.visits[key] = len(self.heads)
