@@ -86,7 +86,8 @@ def slice_of(
         byte = z3.Function(name, z3.BitVecSort(64), z3.BitVecSort(8))
         made.conditions.append(z3.ULE(count, ((1 << POINTER - 1) - 1) // size))
     text = Text(z3.simplify(count * size), byte)
-    made.memory[name] = Slice(text.length, align, byte)
+    # Only a room is behind `&mut`.
+    made.memory[name] = Slice(text.length, align, byte, type_ != "room")
     passed = z3.simplify(z3.Extract(POINTER - 1, 0, count))
     made.arguments.extend([Address(name, constant(0)), Number(passed)])
     made.of_rule.append(Sums(products, text, count) if type_ == "terms" else text)

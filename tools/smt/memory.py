@@ -44,6 +44,7 @@ class Slice(NamedTuple):
     length: BitVecRef
     align: int
     byte: Callable[[BitVecRef], BitVecRef]
+    is_constant: bool = False
 
 
 Object = Union[Cells, Slice]
@@ -138,11 +139,11 @@ class Memory:
     def write(self, address: Address, cells: list[Cell], align: int, state: State) -> None:
         places, it = self.places(address, len(cells), align, state), self.object(address, state)
         name, size = str(address.object), len(cells)
+        if it.is_constant:
+            self.goals.bad("a store to a constant", state)
         if isinstance(it, Slice):
             state.memory[name] = self.written(it, address.offset, cells, state)
             return
-        if it.is_constant:
-            self.goals.bad("a store to a constant", state)
         if len(places) != 1:
             raise Unsupported("a store to an unknown place")
         at = places[0]
@@ -162,6 +163,8 @@ class Memory:
         target, source = self.object(to, state), self.object(of, state)
         if not (isinstance(target, Slice) and isinstance(source, Slice)):
             raise Unsupported("memmove of unknown length")
+        if target.is_constant:
+            self.goals.bad("a store to a constant", state)
         for it, place in ((target, to), (source, of)):
             outside = z3.Or(z3.UGT(place.offset, it.length), z3.UGT(size, it.length - place.offset))
             wrong = z3.Or(poison, place.poison, outside)

@@ -151,7 +151,8 @@ class Parsing:
         if answer != right:
             raise Refused(f"the compiled Rust returns {answer:#x}, not {right:#x}, {at}")
         if reads:
-            memory: dict[str, Object] = {"text": Slice(constant(len(data)), 1, byte_of(data))}
+            given_text = Slice(constant(len(data)), 1, byte_of(data), True)
+            memory: dict[str, Object] = {"text": given_text}
             size, others = Number(constant(len(data))), self.others(constant(low), constant(high))
             arguments: list[Value] = [Address("text", constant(0)), size, *others]
             machine = Machine(self.module, Arithmetic(exact=True), Goals(self.refute_known))
@@ -324,7 +325,7 @@ class Parsing:
         length, (low, high) = z3.BitVec("n", 64), z3.BitVecs("min max", 64)
         byte = z3.Function("text", z3.BitVecSort(64), z3.BitVecSort(8))
         machine = Machine(self.module, self.arithmetic, Outcomes(self), self)
-        self.memory = {**machine.globals, "text": Slice(length, 1, byte)}
+        self.memory = {**machine.globals, "text": Slice(length, 1, byte, True)}
         arguments: list[Value] = [Address("text", constant(0)), Number(length)]
         arguments += self.others(low, high)
         at = f"@{self.row.case.symbol}"
