@@ -189,7 +189,7 @@ class Module:
                 self.functions[function.name] = function
             elif found := re.match(rf"({NAME}) = [^(]*\balias .*, ptr ({NAME})$", line):
                 aliases[found[1]] = found[2]
-            elif found := re.match(rf"({NAME}) = [^(]*?\bconstant (.*), align (\d+)", line):
+            elif found := re.match(rf'({NAME}) = [^("]*?\bconstant (.*), align (\d+)', line):
                 self.constants[found[1]] = Constant(*take_type(found[2]), int(found[3]))
             elif found := re.match(r"(!\d+) = (?:distinct )?!\{(.*)\}$", line):
                 self.metadata[found[1]] = found[2]
