@@ -20,7 +20,8 @@ whole = z3.Function("whole", z3.IntSort(), z3.IntSort())
 fraction = z3.Function("fraction", z3.IntSort(), z3.IntSort(), z3.RealSort())
 
 IS_DECIMAL = z3.And(s < e, z3.Or(e == n, z3.And(text(e) == ord("."), e + 1 < n, x == n)))
-VALUE = z3.ToReal(whole(e)) + z3.If(e == n, 0, fraction(e + 1, n))
+FRACTION = z3.If(e == n, 0, fraction(e + 1, n))
+VALUE = z3.ToReal(whole(e)) + FRACTION
 
 
 def is_digit(at: ArithRef) -> BoolRef:
@@ -67,7 +68,7 @@ h, y, z = z3.Ints("h y z")
 
 
 def lemmas() -> Iterator[tuple[str, BoolRef]]:
-    d, r, p, w, m = z3.Ints("d r p w m")
+    d, r, p, m = z3.Ints("d r p m")
     a, b, c = z3.Reals("a b c")
     # By induction from the last digit, a fraction of digits is less than 1.
     digit = z3.And(0 <= d, d <= 9, 0 <= b, b < 1, 10 * a == z3.ToReal(d) + b)
@@ -85,8 +86,8 @@ def lemmas() -> Iterator[tuple[str, BoolRef]]:
         with_late = z3.And(0 <= c, c < 1, is_floor(h, 2**k * (v + c) / 10**k))
         yield f"LATE {k}", z3.Implies(with_late, is_floor(h, 2**k * v / 10**k))
         # Half units, rounded down, have the nearest number of units.
-        both = z3.And(is_floor(h, 2**k * a), is_nearest(m, z3.ToReal(w) + a, f))
-        yield f"HALVES {k}", z3.Implies(both, m == w * 2**f + (h + 1) / 2)
+        both = z3.And(is_floor(h, 2**k * FRACTION), is_nearest(m, VALUE, f))
+        yield f"HALVES {k}", z3.Implies(both, m == whole(e) * 2**f + (h + 1) / 2)
 
 
 class Text:
