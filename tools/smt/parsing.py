@@ -145,6 +145,8 @@ class Parsing:
         given: dict[str, int | bytes] = {"text": data, "f": f, "min": low, "max": high}
         at = f"at {data.decode()!r}" + ("" if self.row.range else f", {low} to {high}")
         right = expected(data, f, low, high)
+        if reads:
+            self.check_facts(data, right, low, high)
         if self.row.is_literal and right >> 64:
             return
         answer, _ = run_library(self.library, self.row.case, given)
@@ -161,6 +163,20 @@ class Parsing:
             if read != answer:
                 raise Refused(f"the reader says {read:#x}, and the processor {answer:#x}, {at}")
             self.agreed += 1
+
+    def check_facts(self, data: bytes, right: int, low: int, high: int) -> None:
+        """The facts of a known text contradict nothing, and the definition is of its value."""
+        solver, places = z3.Solver(), range(len(data))
+        solver.set("rlimit", LIMIT)
+        solver.add(n == len(data), *(text(i) == data[i] for i in places), *self.text.facts())
+        solver.add(*(self.text.facts_at(z3.IntVal(i)) for i in places))
+        is_met = solver.check() == z3.sat
+        m = whole(e) * 2**self.row.f + (h + 1) / 2
+        b = z3.If(s == 1, -m, m)
+        fits = z3.If(z3.And(low <= b, b <= high), z3.If(b < 0, b + 2**64, b), 2 << 64)
+        solver.add(z3.If(IS_DECIMAL, fits, 1 << 64) != right)
+        if not is_met or solver.check() != z3.unsat:
+            raise Unknown(f"the facts are false of {data!r}")
 
     def refute_known(self, why: str, conditions: list[BoolRef]) -> None:
         if z3.is_true(z3.simplify(z3.And(conditions))):
