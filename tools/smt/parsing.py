@@ -228,13 +228,15 @@ class Parsing:
         self.goals += 1
         if any(z3.is_false(z3.simplify(it)) for it in conditions):
             return
+        if (answer := self.answer(conditions)) != z3.unsat:
+            self.search()
+            raise Unknown(f"{why}: the solver says {answer}, and no text is known that shows it")
+
+    def answer(self, conditions: list[BoolRef]) -> Any:
         solver = z3.Solver()
         solver.set("rlimit", LIMIT)
         solver.add(*self.premises(conditions))
-        answer = solver.check()
-        if answer != z3.unsat:
-            self.search()
-            raise Unknown(f"{why}: the solver says {answer}, and no text is known that shows it")
+        return solver.check()
 
     def of_integers(self, condition: BoolRef) -> BoolRef:
         self.keep(condition, [condition])
@@ -344,13 +346,16 @@ class Parsing:
         self.memory = {**machine.globals, "text": Slice(length, 1, byte, True)}
         arguments: list[Value] = [Address("text", constant(0)), Number(length)]
         arguments += self.others(low, high)
-        at = f"@{self.row.case.symbol}"
+        at, is_met = f"@{self.row.case.symbol}", False
         try:
             for end in machine.run(at, arguments, {"text": self.memory["text"]}, []):
                 self.check(number_of(end.value), end.conditions)
+                is_met = is_met or self.answer(end.conditions) == z3.sat
         except Unsupported:
             self.search()
             raise
+        if not is_met:
+            raise Unknown("no text is known for which it returns")
 
     def check(self, result: Number | None, conditions: list[BoolRef]) -> None:
         """Shows that what a path returns is right, or that a panic is."""

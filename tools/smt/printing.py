@@ -288,9 +288,14 @@ class Printing:
 
     def run(self) -> None:
         """Proves the function, or raises why not."""
-        machine = Machine(self.module, self.arithmetic, Printed(self))
+        machine, is_met = Machine(self.module, self.arithmetic, Printed(self)), False
         for cells, conditions in self.ends(machine, self.bits):
-            self.check(cells, list(map(self.premise, conditions)))
+            known = list(map(self.premise, conditions))
+            self.check(cells, known)
+            every = [*map(self.premise, self.arithmetic.facts), *known]
+            is_met = is_met or self.solved(every) == z3.sat
+        if not is_met:
+            raise Unknown("no value is known for which it returns")
 
     def check(self, cells: list[Number], known: list[BoolRef]) -> None:
         """Shows that a path prints a decimal: perhaps a sign, a whole without a zero at its start,
