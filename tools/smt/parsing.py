@@ -88,6 +88,12 @@ def of_each() -> Iterator[Row]:
 ROWS, OF_EACH = list(rows()), list(of_each())
 
 
+# Texts of each kind, and the numbers of fraction bits for which their facts were checked.
+KNOWN = [b"", b"-", b"7", b"-1.5", b"1.", b".5", b"1x", b"1.x5", b"1.5x", b"-.", b"--1"]
+KNOWN += [b"2." + b"3" * 40, b"2." + b"3" * 40 + b"x", b"-" + b"0" * 30 + b"9"]
+CHECKED: set[int] = set()
+
+
 def chosen(f: int, chance: random.Random) -> bytes:
     """Returns a text by chance: near a value, a tie or an edge of a range, and at times no decimal."""
     b = chance.getrandbits(chance.choice([1, 4, f, f + 4, 15, 31, 31, 63, 66]))
@@ -146,7 +152,7 @@ class Parsing:
         at = f"at {data.decode()!r}" + ("" if self.row.range else f", {low} to {high}")
         right = expected(data, f, low, high)
         if reads:
-            self.check_facts(data, right, low, high)
+            self.check_facts(data)
         if self.row.is_literal and right >> 64:
             return
         answer, _ = run_library(self.library, self.row.case, given)
@@ -164,9 +170,9 @@ class Parsing:
                 raise Refused(f"the reader says {read:#x}, and the processor {answer:#x}, {at}")
             self.agreed += 1
 
-    def check_facts(self, data: bytes, right: int, low: int, high: int) -> None:
+    def check_facts(self, data: bytes) -> None:
         """The facts of a known text contradict nothing, and the definition is of its value."""
-        solver, places = z3.Solver(), range(len(data))
+        solver, places, (low, high) = z3.Solver(), range(len(data)), (-(2**63), 2**63 - 1)
         solver.set("rlimit", LIMIT)
         solver.add(n == len(data), *(text(i) == data[i] for i in places), *self.text.facts())
         solver.add(*(self.text.facts_at(z3.IntVal(i)) for i in places))
@@ -174,7 +180,7 @@ class Parsing:
         m = whole(e) * 2**self.row.f + (h + 1) / 2
         b = z3.If(s == 1, -m, m)
         fits = z3.If(z3.And(low <= b, b <= high), z3.If(b < 0, b + 2**64, b), 2 << 64)
-        solver.add(z3.If(IS_DECIMAL, fits, 1 << 64) != right)
+        solver.add(z3.If(IS_DECIMAL, fits, 1 << 64) != expected(data, self.row.f, low, high))
         if not is_met or solver.check() != z3.unsat:
             raise Unknown(f"the facts are false of {data!r}")
 
@@ -189,6 +195,9 @@ class Parsing:
 
     def sample(self, turns: int) -> None:
         chance = random.Random(self.row.name)
+        for data in KNOWN if self.row.f not in CHECKED else ():
+            self.check_facts(data)
+        CHECKED.add(self.row.f)
         for _ in range(turns):
             self.judge(chance, True)
 
