@@ -40,7 +40,9 @@ def asked(term: Term) -> tuple[Term, int, Ranges] | None:
 # are values, which no store changes. Nothing is known but by a question, or as both are equal.
 class Facts:
     def __init__(self) -> None:
-        self.known, self.values, self.equal = {}, {}, []
+        self.known: dict[Term, bool] = {}
+        self.values: dict[Term, Ranges] = {}
+        self.equal: list[Term] = []
 
     def values_of(self, term: Term, bits: int) -> Ranges:
         """Returns the values that a term may have, which terms that are equal have too."""
@@ -93,12 +95,15 @@ def test() -> None:
             compare = is_true if sides[0] == x else lambda a, b: is_true(b, a)
             assert found == {it for it in range(256) if compare(raw[it], raw[n])}, (name, sides)
 
+    def at(it: Term, pair: tuple[int, ...], signed: bool) -> int:
+        return value(number(pair[it[1]], 2) if it in (x, y) else it, signed)
+
     cases, space = {}, list(itertools.product(range(4), repeat=2))
     terms = [x, y, *(number(it, 2) for it in range(4))]
     for name, signed, a, b in itertools.product(names, (False, True), terms, terms):
         if a != b and not is_number(a, b):
-            at = lambda it, pair: value(number(pair[it[1]], 2) if it in (x, y) else it, signed)
-            where = frozenset(it for it in space if names[name](at(a, it), at(b, it)))
+            is_true = names[name]
+            where = frozenset(it for it in space if is_true(at(a, it, signed), at(b, it, signed)))
             cases[compared(name, signed, 2, a, b)] = where
     distinct = {where: term for term, where in cases.items() if where}
     for (one, first), (other, second) in itertools.combinations(distinct.items(), 2):

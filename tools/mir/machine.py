@@ -17,10 +17,12 @@ class Function:
     """A function or constant; `lower`, of a reader, writes its blocks when it is first run."""
 
     lower: Callable[[], None]
-    term: Callable[[str], Term]
+    count_of: Callable[[str], Term]
 
     def __init__(self, name: str) -> None:
-        self.name, self.count, self.blocks, self.heads = name, 0, {}, set()
+        self.name, self.count = name, 0
+        self.blocks: dict[int, list[Term]] = {}
+        self.heads: set[int] = set()
         self.used: dict[Term, bool] = {}  # which places of the caller are read or, if true, written
 
     def arguments(self) -> list[Term]:
@@ -141,16 +143,15 @@ class Machine:
 
     def operand(self, it: Term) -> Term:
         kind, what = it
-        if kind == "term":
-            return what
+        term: Term = what
         if kind == "amount":  # of bits, of any type, which Rattle proves to be small
             term = self.operand(what)
-            return term[4] if term[0] == "cast" else term
-        term = self.memory.read(self.place(what))
-        if kind == "copy" and term[0] == "elem":
-            self.memory.check_index(term[2], length(term[1]))
-            root, path = place_of(term)
-            return ("ptr", root, path)
+            term = term[4] if term[0] == "cast" else term
+        elif kind != "term":
+            term = self.memory.read(self.place(what))
+            if kind == "copy" and term[0] == "elem":
+                self.memory.check_index(term[2], length(term[1]))
+                term = ("ptr", *place_of(term))
         return term
 
     def value(self, kind: str, *it: Any) -> Term:

@@ -34,13 +34,15 @@ class Edit:
 
     def __init__(self, edit: edits.Edit, sources: Sources, root: Path) -> None:
         crate = edit.path.parts[-3]
-        self.name, self.changes, self.keys, self.reason = edit.name, [], set(), ""
+        self.name, self.reason = edit.name, ""
+        self.changes: list[tuple[int, int, str]] = []
+        self.keys: set[str | None] = set()
         self.file = sources.files.get(str(edit.file.relative_to(root / "crates")), "")
         if not self.file:
             self.reason = f"change a file of {crate} whose MIR is not compared"
             return
         self.source, self.module = "\n".join(sources.lines[self.file]), sources.module(self.file)
-        function = re.match(r"(?:\w+::)*(\w+)", edit.function)[1]
+        (function,) = re.findall(r"^(?:\w+::)*(\w+)", edit.function)
         for change in edit.changes:
             own = f"crate::{self.module.split('::')[0]}::"
             self.find(function, *(re.sub(r"\bcrate::", own, it) for it in change))
@@ -51,8 +53,9 @@ class Edit:
         after = r"(?:,|(?=\s*[})]))" if old.endswith(",") else ""
         found = [*re.finditer(words + after, self.source)]
         if len(found) > 1:
-            is_in = lambda it: (self.key_at(it.start()) or "").endswith(f"::{function}")
-            found = [it for it in found if is_in(it) and self.source[it.end()] not in ".("]
+            keys = ((it, self.key_at(it.start()) or "") for it in found)
+            found = [it for it, key in keys if key.endswith(f"::{function}")]
+            found = [it for it in found if self.source[it.end()] not in ".("]
         if len(found) == 1:
             self.changes.append((found[0].start(), found[0].end(), new))
             self.keys |= {self.key_at(it) for it in self.uses(found[0])}

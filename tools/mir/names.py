@@ -75,6 +75,7 @@ class Path:
         if not self.kind:
             yield "::".join([*self.module, self.name]), []
             return
+        given: Trees
         trait, *given = self.trait or ("",)
         found = owners(self.kind, aliases)
         if self.kind[0] == "&" and trait in COMPARED:  # of references, as of what they refer to
@@ -90,7 +91,8 @@ class Names:
     """The functions of both sides, by name."""
 
     def __init__(self, text: rust.Text, library: Library, sources: Sources) -> None:
-        self.text, self.library, self.sources, self.paths = text, library, sources, {}
+        self.text, self.library, self.sources = text, library, sources
+        self.paths: dict[str, Path] = {}
         lines = "\n".join(it for lines in sources.lines.values() for it in lines)
         aliases = re.findall(r"^(?:pub(?:\(.*?\))? )?type (\w+) = (.+);", lines, re.M)
         self.aliases = {name: parse(of, {}) for name, of in aliases}
@@ -98,7 +100,9 @@ class Names:
         # Those that rustc names end with a bracket: `{constant#0}`, `promoted[0]`, `{closure#0}`.
         named = [it for it in text.functions if it.removesuffix("()")[-1] not in "}]"]
         self.theirs = {it: self.path(it.removesuffix("()"), self.impl_at(it)) for it in named}
-        self.ours, self.both, self.constants = {}, {}, {}
+        self.ours: dict[str, str] = {}  # of Rattle, by key
+        self.constants: dict[str, str] = {}  # of Rust, by key
+        self.both: dict[str, str] = {}  # of Rust, by that of Rattle
         for name in library.bodies:
             if "::fn::" not in name and not is_declared(name):
                 self.insert(self.ours, key_of(name), name)
@@ -140,7 +144,7 @@ class Names:
         generics = bracketed(text) if text[0] == "<" else ""
         trait, _, of = (it.strip() for it in text[len(generics) :].rpartition(" for "))
         kind, of_trait = parse(of, self.aliases), parse(trait, self.aliases) if trait else None
-        own = [re.match(r"(?:const )?('?\w+)", it)[1] for it in split(generics[1:-1])]
+        own = [re.findall(r"^(?:const )?('?\w+)", it)[0] for it in split(generics[1:-1])]
         return kind, of_trait, False, [it for it in own if it[0] != "'"]
 
     def found(self, path: Path) -> tuple[str | None, Trees]:
@@ -175,7 +179,8 @@ class Names:
     def closures(self) -> dict[str, str]:
         """Pairs closures by the function that they are in, and their order there."""
         of_both = {plain(one): other for one, other in self.both.items()}
-        some, found = collections.defaultdict(list), {}
+        some: dict[str, list[str]] = collections.defaultdict(list)
+        found: dict[str, str] = {}
         for name in self.library.bodies:
             if "::fn::" in name and "+" not in name.split("::")[-1] and not is_declared(name):
                 some[plain(re.sub(r"::fn::(.*)::\w+$", r"::\1", name))].append(name)
@@ -281,7 +286,7 @@ class Names:
             return f"the signs of {signed}"
         if not ours and (not other or path.trait and last(name) in BESIDE):
             return self.std_fault(name, types, path, body) if path.is_of_std else "not of std"
-        if other != ours:
+        if other != ours or not ours:
             return f"{other}"
         return self.types_fault(self.library.bodies[ours], what[1], rest, path.given, body)
 
@@ -292,7 +297,10 @@ class Names:
         (way, _, own), bounds = what, body.body["generics"]["bounds"]
         given, (trait, *types) = bounds[way["Given"]], path.trait or ("",)
         types = types[0][1:] if last(given["of"]) in FUNCTIONS else types
-        are = lambda it, bound: self.are_types(it["types"], [path.kind, *types], bound)
+
+        def are(it: Json, bound: Bound) -> bool:
+            return self.are_types(it["types"], [path.kind, *types], bound)
+
         found = [it for it in bounds if last(it["of"]) == trait and are(it, dict(body.types))]
         is_own = self.are_types(own["types"], path.given, body.types)
         is_alike = found == [given] and are(given, body.types) and is_own
@@ -347,7 +355,8 @@ class Names:
 
     def alone(self) -> tuple[collections.Counter[str], list[str]]:
         """Returns how many functions one side alone has, by the reason, and those without one."""
-        reasons, errors, taken = collections.Counter(), [], set(self.both.values())
+        reasons: collections.Counter[str] = collections.Counter()
+        errors, taken = [], set(self.both.values())
         closures = [it for it in self.text.functions if it.endswith("}()") and "{closure" in it]
         ours = ((it, self.reason_in_rattle(it), "Rattle") for it in self.library.bodies)
         theirs = ((it, self.reason_in_rust(it), "Rust") for it in [*self.theirs, *closures])

@@ -18,6 +18,9 @@ from terms import Events, Term, Terms, is_lost, is_number, referred
 
 PATHS, TURNS = 3000, 9
 
+# Of a loop: its head in Rust, the cells of both sides there, the variables in them, and the turns.
+Loop = tuple[int, dict[tuple[int, Term], Term], set[Term], int]
+
 # The methods of traits that a reference has as what it refers to has them.
 THROUGH = ("eq", "ne", "cmp", "partial_cmp", "hash", "lt", "le", "derived_fields")
 
@@ -29,7 +32,8 @@ def is_condition(term: Term) -> bool:
 def children(term: Term) -> Term:
     """Returns the parts of a term of which a loop may change some, and keeps the others."""
     if term[0] == "agg":
-        return term[2]
+        parts: Term = term[2]
+        return parts
     return term[3:] if term[0] == "slice" else term[2:] if term[0] in ("iter", "elem") else ()
 
 
@@ -75,7 +79,9 @@ class Path:
     def __init__(self, left: Body, right: rust.Body, names: Names, decisions: list[bool]) -> None:
         self.left, self.right, self.body, self.names = Machine(left), Machine(right), left, names
         self.facts, self.decisions, self.calls = Facts(), decisions, 0
-        self.taken, self.open, self.loops = [], [], {}
+        self.taken: list[bool] = []
+        self.open: list[list[bool]] = []
+        self.loops: dict[int, Loop] = {}
 
     def decide(self, term: Term) -> bool:
         if (known := self.facts.decided(term)) is not None:
@@ -177,7 +183,8 @@ class Path:
 def explore(left: Body, right: rust.Body, names: Names) -> None:
     """Runs both on every path."""
     names.require_types(left, right)
-    todo, count = [[]], 0
+    todo: list[list[bool]] = [[]]
+    count = 0
     while todo:
         path = Path(left, right, names, todo.pop())
         path.run()

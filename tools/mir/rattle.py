@@ -11,6 +11,7 @@ from std import integer_of
 from terms import FALSE, TRUE, UNIT, Term, number
 
 Json = Any
+Layout = tuple[int, int]
 
 # How many bytes a type has, and of what its places are multiples.
 LAYOUTS = {"Unit": (0, 1), "Bool": (1, 1), "Ref": (8, 8), "Struct": (16, 8)}
@@ -29,8 +30,12 @@ class Library:
     """The functions of some crates, with the types and impls that they use."""
 
     def __init__(self, crates: Iterable[Json]) -> None:
-        self.bodies, self.types, self.impls, self.methods = {}, {}, {}, []
-        self.order, self.closures = {}, {}  # methods by trait and number, and closures of Rust
+        self.bodies: dict[str, Json] = {}
+        self.types: dict[str, Json] = {}
+        self.impls: dict[str, Json] = {}
+        self.methods: list[tuple[str, Json]] = []
+        self.order: dict[tuple[str, int], str] = {}  # methods by trait and number
+        self.closures: dict[str, str] = {}  # of Rust
         for functions in crates:
             for name, body in functions:
                 if self.bodies.setdefault(name, body) is not body:
@@ -40,8 +45,9 @@ class Library:
                 if body["generics"]["method_of"]:
                     self.methods.append((name, body["generics"]["method_of"]))
         nothing = ("Seq", "Return", {"Assign": [{"local": 0, "steps": []}, {"Opd": "Unit"}]})
-        is_nothing = lambda it: isinstance(it, list) and all(token in nothing for token in it)
-        self.nothing = {name for name, it in self.bodies.items() if is_nothing(it["body"])}
+        bodies = ((name, it["body"]) for name, it in self.bodies.items())
+        lists = ((name, it) for name, it in bodies if isinstance(it, list))
+        self.nothing = {name for name, it in lists if all(token in nothing for token in it)}
 
 
 def kind_of(of: Json) -> tuple[str, Json]:
@@ -56,10 +62,12 @@ def is_slice(of: Json) -> bool:
 class Body(Function):
     def __init__(self, library: Library, name: str) -> None:
         super().__init__(name)
-        self.library, self.body, self.types = library, library.bodies[name], {}
+        self.library, self.body = library, library.bodies[name]
+        self.types: dict[int, Term] = {}
         self.locals, self.count = [it["ty"] for it in self.body["locals"]], self.body["params"]
         tokens = self.body["body"]
-        self.tokens, self.now = tokens if isinstance(tokens, list) else [tokens], []
+        self.tokens = tokens if isinstance(tokens, list) else [tokens]
+        self.now: list[Term] = []
         # Which array a local is a pointer to, if its type does not say it.
         lent = (it["LendStatic"] for it in self.tokens if "LendStatic" in it)
         self.arrays = {it["local"]: of for it, of, _ in lent}
@@ -184,7 +192,7 @@ class Body(Function):
 
     # Rattle places fields in the order of the source, each at a multiple of its alignment. Of an
     # enum with fields, and of 128 bits, the size is not known, and so no index by a distance.
-    def layout(self, of: Json) -> tuple[int, int] | None:
+    def layout(self, of: Json) -> Layout | None:
         """Returns how many bytes a type has, and of what its places are multiples, or None: the
         fields lie in the order of the source."""
         kind, it = kind_of(of)
@@ -193,16 +201,21 @@ class Body(Function):
         if kind == "Array":
             inner = self.layout(it[0])
             return (it[1]["Lit"] * inner[0], inner[1]) if inner and "Lit" in it[1] else None
+
+        def layouts(some: list[Json]) -> list[Layout | None]:
+            given = (it[1][of["Param"]] if "Param" in of else of for of in some)
+            return [self.layout(of) for of in given]
+
         shape, end, whole = self.shape(of), 0, 1
-        given = lambda of: it[1][of["Param"]] if "Param" in of else of
-        layouts = lambda some: [self.layout(given(of)) for of in some]
         if "Variants" in shape:  # a tag, and what is known if it has no bytes
             is_tag = all(set(layouts(some)) <= {(0, 1)} for some in shape["Variants"])
             return (1, 1) if is_tag else None
-        fields = layouts(shape["Fields"]) if shape else [None]
-        for size, multiple in fields if None not in fields else ():
+        for field in layouts(shape["Fields"]) if shape else [None]:
+            if not field:
+                return None
+            size, multiple = field
             end, whole = -(-end // multiple) * multiple + size, max(whole, multiple)
-        return None if None in fields else (-(-end // whole) * whole, whole)
+        return (-(-end // whole) * whole, whole)
 
     def borrowed(self, place: Json) -> Json:
         """Returns the array to which a reference to a place is a pointer, or None."""
@@ -249,7 +262,8 @@ class Body(Function):
 
     def width(self, operand: Json) -> int:
         of = self.operand_type(operand)
-        return 1 if of == "Bool" else of["Int"]
+        bits: int = 1 if of == "Bool" else of["Int"]
+        return bits
 
     def pointer(self, operand: Json) -> tuple[Term, Term | None, Term]:
         """Returns what is a pointer to an element, the length of the array if it is to one, and

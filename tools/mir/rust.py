@@ -7,7 +7,7 @@ import re
 from collections.abc import Callable, Iterable, Iterator, Sequence
 
 from machine import Function
-from terms import FALSE, TRUE, UNIT, Term, length, number, text_of, value, width
+from terms import FALSE, TRUE, UNIT, WIDTHS, Term, length, number, text_of, value
 
 PLACE = re.compile(r"<impl at ([^:>]*):(\d+):(\d+): (\d+):(\d+)>")
 CLOSURE = re.compile(r"\{closure@([^}]*)\}")
@@ -91,10 +91,15 @@ def unreferenced(of: str) -> str:
 class Text:
     """The functions and constants of some packages, and what their sources declare."""
 
+    resolve: Callable[[str], str | None]  # which constant a path names
+
     def __init__(self, sources: Iterable[list[str]]) -> None:
-        self.variants, self.values, self.declared = dict(VARIANTS), {"Ordering": [-1, 0, 1]}, set()
-        self.functions, self.closures, self.constants, self.used = {}, {}, {}, set()
-        self.resolve: Callable[[str], str] = None  # which constant a path names
+        self.variants, self.values = dict(VARIANTS), {"Ordering": [-1, 0, 1]}
+        self.declared: set[str] = set()
+        self.functions: dict[str, Body] = {}
+        self.closures: dict[str, str] = {}  # the function of each, by its place
+        self.constants: dict[str, set[str]] = {}  # of which types those of a name are
+        self.used: set[str] = set()
         for source in map("\n".join, sources):
             for name in re.findall(DECLARED, source, re.M):
                 self.require_new(name)
@@ -105,10 +110,12 @@ class Text:
                 self.constants.setdefault(name, set()).add(of)
 
     def add_enum(self, name: str, variants: Sequence[str]) -> None:
-        found, values = [re.fullmatch(VARIANT, it, re.S) for it in variants], []
-        if None in found:
+        matches = (re.fullmatch(VARIANT, it, re.S) for it in variants)
+        found = [it for it in matches if it]
+        if len(found) != len(variants):
             raise ValueError(f"the variants of {name}: {variants}")
         self.variants[name] = [it[1] for it in found]
+        values: list[int] = []
         for it in found:
             values.append(int(it[2]) if it[2] else (values or [-1])[-1] + 1)
         self.values.update({name: values} if any(it[2] for it in found) else {})
@@ -121,7 +128,8 @@ class Text:
         """Reads what rustc prints of these crates in one package, each function once."""
         for name in set(re.findall(r"\b(?:core|alloc)::(?:\w+::)*([A-Z]\w*)", text)):
             self.require_new(name)
-        again, function, paths = False, None, {}
+        again, function = False, None
+        paths: dict[str, str] = {}
         for line in text.splitlines():
             if line == "// MIR FOR CTFE":
                 again = True
@@ -207,14 +215,15 @@ class Body(Function):
         ended, assigned = ENDED.fullmatch(line), re.fullmatch(r"([_(].*?) = (.*);", line)
         text, label = (ended[1], ended[2] or ended[3]) if ended else (line, None)
         goto = ("goto", int(label)) if label else ("dead",)
-        form = next((it for it in FORMS if re.fullmatch(it[0], text)), None) if ended else None
+        forms = ((run, re.fullmatch(pattern, text)) for pattern, run in FORMS if ended)
+        run, found = next((it for it in forms if it[1]), (None, None))
         if line in ("return;", "unreachable;", "resume;"):
             self.now.append(("return" if line == "return;" else "dead",))
-        elif form:
-            form[1](self, *re.fullmatch(form[0], text).groups())
+        elif run and found:
+            run(self, *found.groups())
             self.now.append(goto)
-        elif line.startswith("switchInt"):
-            self.switch(*re.fullmatch(SWITCH, line).groups())
+        elif switch := re.fullmatch(SWITCH, line):
+            self.switch(*switch.groups())
         elif assigned:
             self.now.append(("set", self.place(assigned[1]), self.value(assigned[2])))
         else:
@@ -250,12 +259,15 @@ class Body(Function):
 
     def switch(self, operand: str, texts: str, otherwise: str) -> None:
         of, enum, term = self.type_of(operand), self.enum(operand), self.operand(operand)
-        values, pairs = self.text.values.get(enum), [it.split(": bb") for it in split(texts)]
-        # A discriminant is printed without a sign.
-        raw = lambda n: values.index(value(number(n, width(of)), True)) if values else n
+        values = self.text.values.get(enum or "")
+        pairs = [it.split(": bb") for it in split(texts)]
+
+        def raw(n: int) -> int:  # a discriminant is printed without a sign
+            return values.index(value(number(n, WIDTHS[of]), True)) if values else n
+
         arms = sorted((raw(int(n)), int(label)) for n, label in pairs)
         default = None if self.lines[int(otherwise)] == ["unreachable;"] else int(otherwise)
-        self.now.append(("switch", (term, 8 if enum else width(of)), arms, default))
+        self.now.append(("switch", (term, 8 if enum else WIDTHS[of]), arms, default))
 
     # ---- places
 
@@ -291,7 +303,7 @@ class Body(Function):
             return ("e", ("copy", (int(inner[1:]), ())))
         if one:
             return ("end", int(one[2])) if one[1] else ("e", ("term", number(int(one[2]), 64)))
-        if some[2] and ":-" not in inner:
+        if not some or some[2] and ":-" not in inner:
             raise ValueError(f"the part {inner} of an array")
         return ("win", int(some[1] or 0), int(some[2] or 0))
 
@@ -337,6 +349,8 @@ class Body(Function):
             self.now.append(("call", (last(text), text, None), (), place, (), None))
         else:
             name = f"{self.path}::{inner[1]}" if inner else self.text.resolve(text)
+            if name is None:
+                raise ValueError(f"the constant {text}")
             self.text.used.add(name)
             self.now.append(("constant", place, self.text.functions[name]))
         return ("copy", place)
@@ -347,15 +361,21 @@ class Body(Function):
     def term(self, text: str) -> Term | None:
         """Returns a constant that needs no code, or None."""
         if integer := re.fullmatch(r"(-?\d+)(?:_(\w+))?", text):
-            return number(int(integer[1]), width(integer[2] or "usize"))
+            return number(int(integer[1]), WIDTHS[integer[2] or "usize"])
         if limit := LIMIT.fullmatch(text):
-            bits, signed = width(limit[1]), limit[1][0] == "i"
+            bits, signed = WIDTHS[limit[1]], limit[1][0] == "i"
             n = {"MAX": (1 << bits - signed) - 1, "MIN": signed << bits - 1, "BITS": bits}
             return number(n[limit[2]], 32 if limit[2] == "BITS" else bits)
         if text[0] in "'\"b" and text[-1] in "'\"":
             return literal_of(text)
         known = {"true": TRUE, "false": FALSE, "()": UNIT, **STATUSES}
         return known.get(text) or (("gen", text) if re.fullmatch("[A-Z]+", text) else None)
+
+    def count_of(self, text: str) -> Term:
+        """Returns how many elements there are in an array, by the text in its type."""
+        if term := self.term(text):
+            return term
+        raise ValueError(f"the number {text} of elements")
 
     def value(self, text: str) -> Term:
         if operation := OPERATION.fullmatch(text):
@@ -391,7 +411,7 @@ class Body(Function):
     def operated(self, name: str, operands: Sequence[str]) -> Term:
         typed = operands[:1] if name in ("Shl", "Shr") else operands  # not the amount's type
         of, terms = next(filter(None, map(self.type_of, typed)), ""), map(self.operand, operands)
-        bits, signed = width(of), of[:1] == "i"
+        bits, signed = WIDTHS.get(of), of[:1] == "i"
         if any(map(self.enum, operands)):
             bits = 8 if name in ("Eq", "Ne") else None
         if not bits:
@@ -402,17 +422,20 @@ class Body(Function):
         return ("Sub" if zero else name, signed, bits, *zero, *terms)
 
     def casted(self, operand: str, text: str) -> Term:
-        to, how = re.fullmatch(r"(.*) \((IntToInt|PointerCoercion\(Unsize, .*\))\)", text).groups()
+        found = re.fullmatch(r"(.*) \((IntToInt|PointerCoercion\(Unsize, .*\))\)", text)
+        if not found:
+            raise ValueError(f"the cast to {text}")
+        to, how = found.groups()
         of, enum, term = self.type_of(operand), self.enum(operand), self.operand(operand)
         if enum in self.text.values:
             raise ValueError(f"a discriminant that is not the number of a variant: {text}")
         if how == "IntToInt":
-            return ("cast", of[0] == "i", 8 if enum else width(of), width(to), term)
+            return ("cast", of[0] == "i", 8 if enum else WIDTHS[of], WIDTHS[to], term)
         if array := re.fullmatch(r"\[.*; (.*)\]", unreferenced(of)):
-            return ("whole", term, self.term(array[1]))
+            return ("whole", term, self.count_of(array[1]))
         # It is a value as one of any type, for `Debug`.
         kind = re.sub(r"&|'\w+ |mut ", "", of)
-        return ("dyn", kind if width(kind) and kind not in ("bool", "char") else None, term)
+        return ("dyn", kind if kind in WIDTHS and kind not in ("bool", "char") else None, term)
 
 
 # How a statement that ends a block is read. What is asserted before a division has a check of its

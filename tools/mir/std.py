@@ -8,8 +8,8 @@ import re
 import types
 from typing import TYPE_CHECKING, Any
 
-from terms import FALSE, Events, Term, Terms, at, cast, compared, length, number, operation, part
-from terms import place_of, pointer, project, referred, tag, text_of, width
+from terms import FALSE, WIDTHS, Events, Term, Terms, at, cast, compared, length, number, operation
+from terms import part, place_of, pointer, project, referred, tag, text_of
 
 if TYPE_CHECKING:
     from machine import Machine
@@ -28,13 +28,13 @@ def known(body: Machine, callee: Term, terms: Terms) -> Events:
 
 def widened(body: Machine, found: re.Match[str], terms: Terms, callee: Term) -> Term:
     to, of = found[1].lower(), found[2].lower()
-    return cast(of[0] == "i", width(of), width(to), terms[0])
+    return cast(of[0] == "i", WIDTHS[of], WIDTHS[to], terms[0])
 
 
 def integers_equal(body: Machine, kind: str, name: str, terms: Terms, references: str = "") -> Term:
     for _ in ("&", *references):
         terms = [body.memory.read(place_of(it)) for it in terms]
-    return compared(name.title(), False, width(kind.lower()), *terms)
+    return compared(name.title(), False, WIDTHS[kind.lower()], *terms)
 
 
 def diverging(*_: Any) -> Events:
@@ -45,7 +45,7 @@ def diverging(*_: Any) -> Events:
 
 
 def sliced(body: Machine, found: re.Match[str], terms: Terms, callee: Term) -> Term:
-    whole = body.function.term(found[1]) if found[1] else length(terms[0])
+    whole = body.function.count_of(found[1]) if found[1] else length(terms[0])
     bounds = {"Range": (0, 1), "RangeTo": (None, 0), "RangeFrom": (0, None)}[found[2]]
     first, end = (None if it is None else project(terms[1], ("f", None, it)) for it in bounds)
     count = operation("Sub", False, 64, end or whole, first or ZERO)
@@ -56,13 +56,14 @@ def sliced(body: Machine, found: re.Match[str], terms: Terms, callee: Term) -> T
 def slice_of_c(body: Machine, found: re.Match[str], terms: Terms, callee: Term) -> Term:
     if terms[0][0] != "ptr_of" or terms[1] != length(terms[0][1]):
         raise ValueError(f"a slice of {terms}")
-    return terms[0][1]
+    whole: Term = terms[0][1]
+    return whole
 
 
 def into_iter(body: Machine, found: re.Match[str], terms: Terms, callee: Term) -> Term:
     if found[1].startswith("core"):
         return terms[0]
-    whole = part(terms[0], ZERO, body.function.term(found[2])) if found[2] else terms[0]
+    whole = part(terms[0], ZERO, body.function.count_of(found[2])) if found[2] else terms[0]
     return ("iter", whole, ZERO)
 
 
@@ -80,7 +81,7 @@ def next_of_slice(body: Machine, found: re.Match[str], terms: Terms, callee: Ter
 
 
 def next_of_range(body: Machine, found: re.Match[str], terms: Terms, callee: Term) -> Events:
-    place, integer = place_of(terms[0]), (found[1][0] == "i", width(found[1]))
+    place, integer = place_of(terms[0]), (found[1][0] == "i", WIDTHS[found[1]])
     _, _, (first, end) = body.memory.read(place)
     if not (yield ("if", compared("Lt", *integer, first, end))):
         return ("agg", 0, ())
@@ -220,7 +221,7 @@ KNOWN = rows(
      lambda body, found, terms, callee: length(terms[0])),
     (rf"core::num::<impl {INT}>::wrapping_(add|sub|mul)", "an operator in Rattle",
      lambda body, found, terms, callee:
-         operation(f"Wrap{found[2].title()}", False, width(found[1]), *terms)),
+         operation(f"Wrap{found[2].title()}", False, WIDTHS[found[1]], *terms)),
     (r"<([iu]\d+|[iu]size|char) as core::convert::From<([iu]\d+|bool|char)>>::from", "a cast",
      widened),
     (rf"<(&*)(bool|char|{INT}) as core::cmp::PartialEq(?:<.*>)?>::(eq|ne)", "an operator",

@@ -1,7 +1,6 @@
 """Values as terms over parameters and results of calls, which are tuples."""
 
 import functools
-import re
 from collections.abc import Generator, Sequence
 from typing import Any
 
@@ -9,10 +8,9 @@ Term = tuple[Any, ...]
 Terms = Sequence[Term]
 Events = Generator[Term, Any, Any]  # what a run of a function yields; it may be sent an answer
 
-
-def width(name: str) -> int | None:
-    found = re.fullmatch(r"[iu](8|16|32|64|128|size)", name)
-    return int(found[1].replace("size", "64")) if found else {"bool": 1, "char": 32}.get(name)
+# How many bits the types have that are integers here.
+WIDTHS = {f"{sign}{bits}": bits for sign in "iu" for bits in (8, 16, 32, 64, 128)}
+WIDTHS |= {"isize": 64, "usize": 64, "bool": 1, "char": 32}
 
 
 def number(value: int, bits: int) -> Term:
@@ -29,13 +27,15 @@ def is_number(*terms: Term) -> bool:
 
 def value(term: Term, signed: bool) -> int:
     _, n, bits = term
-    return n - (1 << bits) if signed and n >> bits - 1 else n
+    found: int = n - (1 << bits) if signed and n >> bits - 1 else n
+    return found
 
 
 def negated(term: Term) -> Term:
     if is_number(term):
         return FALSE if term == TRUE else TRUE
-    return term[1] if term[0] == "not" else ("not", term)
+    found: Term = term[1] if term[0] == "not" else ("not", term)
+    return found
 
 
 def same(a: Term, b: Term) -> Term:
@@ -98,15 +98,18 @@ def project(term: Term, step: Term) -> Term:
     """Returns a part of a term: `("f", VARIANT, N)` of a struct or enum, `("e", INDEX)` of an
     array, or `("win", START, COUNT)` of it."""
     kind = term[0]
+    found: Term = ("get", term, step)
     if step[0] in ("tag", "len", "first"):
-        return {"tag": tag, "len": length, "first": first}[step[0]](term)
-    if step[0] == "win":
-        return ("part", term, *step[1:])
-    if step[0] == "f" and kind == "agg":
-        return term[2][step[2]]
-    if step[0] == "e" and kind == "agg" and is_number(step[1]) and step[1][1] < len(term[2]):
-        return term[2][step[1][1]]
-    return term[3] if kind == "upd" and term[2] == step else ("get", term, step)
+        found = {"tag": tag, "len": length, "first": first}[step[0]](term)
+    elif step[0] == "win":
+        found = ("part", term, *step[1:])
+    elif step[0] == "f" and kind == "agg":
+        found = term[2][step[2]]
+    elif step[0] == "e" and kind == "agg" and is_number(step[1]) and step[1][1] < len(term[2]):
+        found = term[2][step[1][1]]
+    elif kind == "upd" and term[2] == step:
+        found = term[3]
+    return found
 
 
 def updated(term: Term, path: Terms, new: Term) -> Term:
@@ -123,11 +126,12 @@ def updated(term: Term, path: Terms, new: Term) -> Term:
 
 def pointer(root: Term, path: Term) -> Term:
     """Returns a reference. `&*x` is `x`, and what has the length of its own is a slice."""
+    found: Term = ("ptr", root, path)
     if root[0] == "mem" and not path:
-        return root[1]
-    if path and path[-1][0] == "win":
-        return ("slice", root, path[:-1], *path[-1][1:])
-    return ("ptr", root, path)
+        found = root[1]
+    elif path and path[-1][0] == "win":
+        found = ("slice", root, path[:-1], *path[-1][1:])
+    return found
 
 
 def place_of(term: Term) -> tuple[Term, Term]:
@@ -188,7 +192,8 @@ def at(path: Term, index: Term) -> Term:
 
 
 def length(term: Term) -> Term:
-    return term[4] if term[0] == "slice" else ("len", term)
+    found: Term = term[4] if term[0] == "slice" else ("len", term)
+    return found
 
 
 def referred(term: Term) -> Term:
@@ -212,7 +217,8 @@ def counted(distance: Term, size: Term) -> Term:
     if distance == number(0, 64) or size == number(1, 64):
         return distance
     if distance[:2] == ("op", "Mul") and distance[5] == size:
-        return distance[4]
+        index: Term = distance[4]
+        return index
     raise ValueError(f"the distance {distance} between elements of {size} bytes")
 
 
@@ -236,9 +242,9 @@ def slice_of(memory: "Memory", base: Term, array: Term | None, count: Term) -> T
 
 def from_first(root: Term, path: Term, count: Term) -> Term:
     """Returns a slice from the place of its first element, and its length."""
-    if root[0] == "mem" and path == (("e", number(0, 64)),) and count == length(root[1]):
-        return root[1]
-    return ("slice", root, path[:-1], path[-1][1], count)
+    is_whole = root[0] == "mem" and path == (("e", number(0, 64)),) and count == length(root[1])
+    found: Term = root[1] if is_whole else ("slice", root, path[:-1], path[-1][1], count)
+    return found
 
 
 def first(term: Term) -> Term:
@@ -259,7 +265,8 @@ class Memory:
 
     def __init__(self, arguments: Terms, used: dict[Term, bool]) -> None:
         self.cells: dict[Term, Term] = {("loc", n + 1): it for n, it in enumerate(arguments)}
-        self.checks, self.used = set(), used
+        self.checks: set[Term] = set()
+        self.used = used
 
     # Two references that are other terms are to other places, since `&mut` is the only one to its
     # own. But one that an index picks from some may be any of these: if one of the two is written,
@@ -281,7 +288,8 @@ class Memory:
         return ("*" if root[0] == "mem" else "none", root[1])
 
     def check(self, event: Term | None) -> None:
-        self.checks |= {event} - {None}
+        if event is not None:
+            self.checks.add(event)
 
     def check_index(self, index: Term, whole: Term) -> None:
         if not (is_number(index, whole) and index[1] < whole[1]):
@@ -298,7 +306,7 @@ class Memory:
         self.use(root, False)
         if root[0] == "static":
             is_term = isinstance(root[1], tuple) and isinstance(root[1][0], str)
-            term = root[1] if is_term else root
+            term: Term = root[1] if is_term else root
         else:
             term = self.cells.get(root) or self.unset(root)
         for step in path:

@@ -6,7 +6,7 @@ from collections.abc import Iterable, Iterator
 
 from rattle import Json, kind_of, last, plain
 from rust import split
-from terms import Term, width
+from terms import WIDTHS, Term
 
 Tree = Term
 Trees = list[Tree]
@@ -54,7 +54,8 @@ def form(of: Json) -> Tree:
 
 def is_type(pattern: Tree, tree: Tree, bound: Bound, closures: dict[str, str] = {}) -> bool:
     """Returns whether a type of Rust is one of Rattle, with types for the parameters of that."""
-    kind, name = pattern[0], tree[0]
+    kind: str = pattern[0]
+    name: str = tree[0]
     if kind == "Param":
         of = bound.setdefault(pattern[1], tree)
         if of[:1] == ("<",) and re.match(rf"<{of[1]} as (\w+::)*{of[2]}(<.*>)?>::", name):
@@ -63,11 +64,11 @@ def is_type(pattern: Tree, tree: Tree, bound: Bound, closures: dict[str, str] = 
     if kind in ("Const", "Lit"):
         return tree == (str(pattern[1]),)
     if kind == "Int":
-        return name != "bool" and width(name) == pattern[1]
+        return name != "bool" and WIDTHS.get(name) == pattern[1]
     if kind == "closure":
         return closures.get(pattern[1]) == name
     if (kind, name) == ("[", "str"):
-        return pattern[1] == ("Int", 8)
+        return pattern == ("[", ("Int", 8))
     # Rattle counts associated types too, after the parameters of a type.
     if name != RENAMED.get(kind, kind) or len(tree) > len(pattern):
         return False
@@ -100,7 +101,7 @@ def owners(tree: Tree, aliases: Aliases) -> list[tuple[str, Trees]]:
     if kind == "(":
         return [(f"Tuple{len(inner)}{it}", rest) for it, rest in joined(inner, aliases)]
     found = [(name, []) for name, it in aliases.items() if it == tree]
-    if width(kind) or kind == "str":
+    if kind in WIDTHS or kind == "str":
         found = [(it, []) for it in (kind.title(), kind, *["bytes"] * (kind == "u8"))]
     elif inner:
         found += [(kind + it, rest) for it, rest in joined(inner, aliases)]
