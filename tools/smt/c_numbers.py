@@ -1,0 +1,135 @@
+"""Rows of the C header: arithmetic, rounding, constants, and names by format."""
+
+import z3
+from z3 import BitVecRef
+
+from c_row import BAD_FRACTION, OUT_OF_RANGE, always, fallible, row, status
+from rules import N, Products, S, U, fits, near, together, up, whole, wrap
+from values import constant
+
+# fmt: off
+for name, rule in {
+    "fixed_mul": lambda p, x, y: wrap(32, near(p.times(x, y), 16)),
+    "f26dot6_mul": lambda p, x, y: wrap(32, near(p.times(x, y), 6)),
+    "fixed_add": lambda p, x, y: wrap(32, S(x) + S(y)),
+    "fixed_sub": lambda p, x, y: wrap(32, S(x) - S(y)),
+}.items():
+    row(name, "x: i32, y: i32", "i32", f"fty_{name}(x, y)", rule)
+
+
+def quotient(
+    p: Products, x: BitVecRef, a: BitVecRef, c: BitVecRef, result: BitVecRef
+) -> z3.BoolRef:
+    """ "x * a / c, rounded once, half away from zero. If c is 0, INT32_MAX, negated if exactly one
+    of x and a is negative"."""
+    largest, known = N((1 << 31) - 1), p.arithmetic
+    product = known.multiply(z3.SignExt(32, x), z3.SignExt(32, a))
+    m, d = U(known.magnitude(product)), z3.ZeroExt(32, known.magnitude(c))
+    of_zero = z3.If(z3.Xor(x < 0, a < 0), -largest, largest)
+    is_negative = z3.Xor(product < 0, c < 0)
+    found = [z3.And(c == 0, result == wrap(64, of_zero))]
+    if known.exact:
+        q = z3.UDiv(2 * m + U(d), 2 * U(d))
+        found.append(z3.And(c != 0, result == wrap(64, z3.If(is_negative, -q, q))))
+    for it, divisor in known.quotients:
+        by, q = U(known.multiply(it, divisor)), z3.If(is_negative, -U(it), U(it))
+        is_nearest = z3.And(divisor == d, 2 * (by - m) <= U(d), 2 * (m - by) < U(d))
+        found.append(z3.And(c != 0, is_nearest, result == wrap(64, q)))
+    return z3.Or(found)
+
+
+row("mul_div_i64", "x: i32, a: i32, c: i32", "i64", "fty_mul_div_i64(x, a, c)", quotient, True)
+row("fixed_from_i32", "x: i32", "i32", "fty_fixed_from_i32(x)", lambda p, x: wrap(32, S(x) << 16))
+for T, f in (("fixed", 16), ("f26dot6", 6)):
+    for name, rule in {
+        "floor": lambda p, x, f=f: wrap(32, whole(S(x), f)),
+        "ceil": lambda p, x, f=f: wrap(32, -whole(-S(x), f)),
+        "round": lambda p, x, f=f: wrap(32, up(S(x), f) << f),
+    }.items():
+        row(f"{T}_{name}", "x: i32", "i32", f"fty_{T}_{name}(x)", rule)
+row("fixed_round_away", "x: i32", "i32", "fty_fixed_round_away(x)",
+    lambda p, x: wrap(32, near(S(x), 16) << 16))
+for name, w, k, to, out in (
+    ("fixed_to_i32", 32, 16, 16, 32), ("fixed_to_f26dot6", 32, 10, 22, 32),
+    ("fixed_to_f2dot14", 32, 2, 16, 16), ("f26dot6_to_i32", 32, 6, 26, 32),
+    ("f48dot16_to_i64", 64, 16, 48, 64), ("f2dot30_to_fixed", 32, 14, 32, 32),
+    ("f2dot30_to_f2dot14", 32, 16, 16, 16),
+):
+    row(name, f"x: i{w}", f"i{out}", f"fty_{name}(x)",
+        lambda p, x, k=k, to=to, out=out: wrap(to, up(S(x), k), out))
+fallible("f48dot16_to_fixed", "x: i64", "i32", "fty_f48dot16_to_fixed(x, &it)",
+         lambda p, x: (status(fits(32, S(x)), OUT_OF_RANGE), wrap(32, S(x))))
+
+
+def rounded(w: int, most: int) -> None:
+    """ "Fails by FTY_BAD_FRACTION, FTY_OUT_OF_RANGE"."""
+
+    def outcome(p: Products, x: BitVecRef, f: BitVecRef) -> tuple[BitVecRef, BitVecRef]:
+        n = ((2 * S(x) + (N(1) << U(f))) >> (U(f) + 1)) << U(f)
+        is_known = z3.And(z3.UGE(f, 6), z3.ULE(f, most))
+        of_known = status(fits(w, n), OUT_OF_RANGE)
+        return z3.If(is_known, of_known, constant(BAD_FRACTION, 32)), wrap(w, n)
+
+    fallible(f"round_i{w}", f"x: i{w}, f: u32", f"i{w}", f"fty_round_i{w}(x, f, &it)", outcome)
+
+
+for w, most in ((16, 14), (32, 30), (64, 30)):
+    rounded(w, most)
+row("delta_set_length", "x: u16, y: u16", "u64", "fty_delta_set_length(x, y)",
+    lambda p, x, y: (lambda n: wrap(64, z3.If(z3.ULT(x, 0x8000), n, 2 * n)))(
+        U(x & 0x7FFF) + U(y)))
+row("FTY_TAG", "a: i32, b: i32, c: i32, d: i32", "u32", "FTY_TAG(a, b, c, d)",
+    lambda p, *v: together([z3.Extract(7, 0, it) for it in v]))
+row("FTY_PAD_INIT, width", "n: size", "u64", "({ fty_pad it = FTY_PAD_INIT(n); it.width; })",
+    lambda p, n: n)
+always("FTY_PAD_INIT, others", "n: size", "u32", "({ fty_pad it = FTY_PAD_INIT(n);"
+       " (uint32_t)it.fill << 24 | it.align << 16 | it.plus << 8 | it.zeros; })",
+       ord(" ") << 24 | 2 << 16)
+TEXTS = ["done", "not a decimal number", "result out of range", "unsupported number of fraction bits",
+         "buffer too small", "invalid padding", "field out of bounds",
+         "different numbers of scalars and deltas", "too many scalars", "unknown status",
+         "wrong length of a tag", "invalid byte in a tag", "printable byte after a space in a tag"]
+DIFFERS = '__builtin_memcmp(it, "%s", sizeof "%s")'
+of_status = "".join(f"x == {k} ? {DIFFERS % (it, it)} : " for k, it in enumerate(TEXTS))
+always("status_text", "x: u32", "bool", "({ const char *const it = fty_status_text((fty_status)x);"
+       f" ({of_status}{DIFFERS % (TEXTS[9], TEXTS[9])}) == 0; }})", 1)
+
+# ---------------------------------------------------------------- names by format
+# What the exports do here, by which a row sees each argument that they get.
+EXPORTS = """
+#define PARSE(W)                                                                               \\
+    fty_status fty_parse_i##W(const char *text, size_t length, uint32_t f, int##W##_t *bits) { \\
+        *bits = (int##W##_t)(f << 8 | (uint8_t)*text);                                         \\
+        return (fty_status)length;                                                             \\
+    }
+PARSE(16)
+PARSE(32)
+fty_status fty_format(int64_t bits, uint32_t f, char *out, size_t room, size_t *length) {
+    *out = (char)f;
+    *length = (size_t)bits;
+    return (fty_status)room;
+}
+fty_status fty_format_padded(int64_t bits, uint32_t f, const fty_pad *pad, char *out, size_t room,
+                             size_t *length) {
+    *out = (char)(f + 1);
+    *length = (size_t)bits;
+    return (fty_status)(room ^ pad->width);
+}
+"""
+for T, w, f in (("fixed", 32, 16), ("f2dot14", 16, 14), ("f26dot6", 32, 6)):
+    row(f"{T}_parse, value", "c: u8", f"i{w}", f"({{ const char text = (char)c; int{w}_t it;"
+        f" (void)!fty_{T}_parse(&text, 0, &it); it; }})",
+        lambda p, c, w=w, f=f: wrap(w, U(c) + (f << 8)))
+    row(f"{T}_parse, status", "n: size", "u32", f"({{ const char text = 0; int{w}_t it;"
+        f" (uint32_t)fty_{T}_parse(&text, n, &it); }})", lambda p, n: wrap(32, U(n)))
+    for name, pad, one in (("format", "", 0), ("format_padded", "&pad, ", 1)):
+        call = f"fty_{T}_{name}(x, {pad}&text, n, &it)"
+        head = f"({{ const fty_pad pad = FTY_PAD_INIT(m); size_t it; char text;"
+        of = f"x: i{w}, n: size, m: size"
+        row(f"{T}_{name}, length", of, "i64", f"{head} (void)!{call}; (ptrdiff_t)it; }})",
+            lambda p, x, n, m: wrap(64, S(x)))
+        row(f"{T}_{name}, fraction bits", of, "u8", f"{head} (void)!{call}; (uint8_t)text; }})",
+            lambda p, x, n, m, f=f + one: constant(f, 8))
+        row(f"{T}_{name}, status", of, "u32", f"{head} (uint32_t){call}; }})",
+            lambda p, x, n, m, one=one: wrap(32, U(n ^ m if one else n)))
+# fmt: on

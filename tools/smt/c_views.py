@@ -1,0 +1,242 @@
+"""Rows of the C header: fields that are read, taken and written, parts of a view, and copies."""
+
+from collections.abc import Callable
+from typing import Any
+
+import z3
+from z3 import BitVecRef
+
+import inputs
+from c_row import FIELDS, OUT_OF_BOUNDS, always, fallible, in_c, row, status
+from cases import Rule, written
+from rules import B, Products, S, Text, U, together, wrap
+from values import constant
+
+Outcome = tuple[Any, ...]
+ZERO = constant(0)
+ABSENT = constant(-1)
+PLACE = "(uint64_t)(uintptr_t){}.bytes - (uintptr_t)view.bytes"
+IS_ABSENT = "{0}.bytes == NULL && {0}.length == 0"
+
+# fmt: off
+# ---------------------------------------------------------------- fields of a view, or of none
+def number(text: Text, at: BitVecRef | int, size: int, type_: str) -> BitVecRef:
+    return wrap(int(type_[1:]), (S if type_[0] == "i" else U)(together(text.bytes(at, size))))
+
+
+def out_of_bounds(type_: str = "u32") -> Rule:
+    """No field is there."""
+    return lambda *_: (constant(OUT_OF_BOUNDS, 32), constant(0, int(type_[1:])))
+
+
+def field(name: str, size: int, type_: str) -> None:
+    none = constant(0, int(type_[1:]))
+    row(name, "text: bytes, at: size", type_, f"fty_{name}(view, at)",
+        lambda p, text, at: z3.If(text.has(at, size), number(text, at, size, type_), none))
+    always(f"{name}, absent", "at: size", type_, f"fty_{name}(fty_absent(), at)", 0)
+    fallible(f"read_{name}", "text: bytes, at: size", type_, f"fty_read_{name}(view, at, &it)",
+             lambda p, text, at: (status(text.has(at, size)), number(text, at, size, type_)))
+    fallible(f"read_{name}, absent", "at: size", type_,
+             f"fty_read_{name}(fty_absent(), at, &it)", out_of_bounds(type_))
+    if size > 1:
+        row(f"peek_{name}", "text: bytes", type_,
+            f"text_length < {size} ? 0 : fty_peek_{name}(text)",
+            lambda p, text: z3.If(text.has(ZERO, size), number(text, 0, size, type_), none))
+
+
+for name, (size, type_) in FIELDS.items():
+    field(name, size, type_)
+
+
+def sized(p: Products, text: Text, at: BitVecRef, n: BitVecRef) -> tuple[Any, Any]:
+    """ "An unsigned integer of `size` bytes, 1 to 4"."""
+    answer, value = constant(OUT_OF_BOUNDS, 32), constant(0, 32)
+    for size in range(1, 5):
+        here = z3.And(n == size, text.has(at, size))
+        answer = z3.If(here, constant(0, 32), answer)
+        value = z3.If(here, number(text, at, size, "u32"), value)
+    return answer, value
+
+
+row("uint", "text: bytes, at: size, n: size", "u32", "fty_uint(view, at, n)",
+    lambda *given: sized(*given)[1])
+always("uint, absent", "at: size, n: size", "u32", "fty_uint(fty_absent(), at, n)", 0)
+fallible("read_uint", "text: bytes, at: size, n: size", "u32", "fty_read_uint(view, at, n, &it)",
+         sized)
+fallible("read_uint, absent", "at: size, n: size", "u32", "fty_read_uint(fty_absent(), at, n, &it)",
+         out_of_bounds())
+
+
+# ---------------------------------------------------------------- what is taken from a view
+def taken(name: str, extra: str, call: str, moved: Callable[..., tuple[Any, Any]]) -> None:
+    """`moved` returns whether the bytes are there, and how many they are. Else the view stays."""
+
+    def gone(p: Products, text: Text, *given: Any) -> BitVecRef:
+        is_there, count = moved(text, *given)
+        return z3.If(is_there, count, ZERO)
+
+    of, start = f"text: bytes{extra}", f"({{ uint64_t it; fty_view rest = view; {call};"
+    row(f"{name}, rest", of, "u64", f"{start} {PLACE.format('rest')}; }})", gone)
+    row(f"{name}, length of the rest", of, "u64", f"{start} rest.length; }})",
+        lambda p, text, *given: text.length - gone(p, text, *given))
+
+
+def take(name: str, size: int, type_: str) -> None:
+    fallible(f"take_{name}", "text: bytes", type_,
+             f"({{ fty_view rest = view; fty_take_{name}(&rest, &it); }})",
+             lambda p, text: (status(text.has(ZERO, size)), number(text, 0, size, type_)))
+    taken(f"take_{name}", "", f"(void)!fty_take_{name}(&rest, ({in_c(type_)} *)&it)",
+          lambda text: (text.has(ZERO, size), constant(size)))
+    always(f"take_{name}, absent", "x: u8", "bool",
+           f"({{ fty_view rest = fty_absent(); {in_c(type_)} it; fty_take_{name}(&rest, &it)"
+           f" == {OUT_OF_BOUNDS} && {IS_ABSENT.format('rest')}; }})", 1)
+
+
+for name, (size, type_) in FIELDS.items():
+    take(name, size, type_)
+fallible("take_uint", "text: bytes, n: size", "u32",
+         "({ fty_view rest = view; fty_take_uint(&rest, n, &it); })",
+         lambda p, text, n: sized(p, text, ZERO, n))
+taken("take_uint", ", n: size", "(void)!fty_take_uint(&rest, n, (uint32_t *)&it)",
+      lambda text, n: (z3.And(n >= 1, n <= 4, z3.ULE(n, text.length)), n))
+TAKEN = "({ fty_view rest = view; const fty_view it = fty_take(&rest, n); %s; })"
+IN_VIEW = f"it.bytes == NULL ? UINT64_MAX : {PLACE.format('it')}"
+row("take, place", "text: bytes, n: size", "u64", TAKEN % IN_VIEW,
+    lambda p, text, n: z3.If(z3.ULE(n, text.length), ZERO, ABSENT))
+row("take, length", "text: bytes, n: size", "u64", TAKEN % "it.length",
+    lambda p, text, n: z3.If(z3.ULE(n, text.length), n, 0))
+taken("take", ", n: size", "it = fty_take(&rest, n).length",
+      lambda text, n: (z3.ULE(n, text.length), n))
+always("take, absent", "n: size", "bool",
+       "({ fty_view rest = fty_absent(); const fty_view it = fty_take(&rest, n);"
+       f" {IS_ABSENT.format('it')} && {IS_ABSENT.format('rest')}; }})", 1)
+
+
+# ---------------------------------------------------------------- fields that are written
+def is_kept(text: Text, after: Text) -> z3.BoolRef:
+    """No byte is changed: any place stands for each of them."""
+    place = z3.BitVec("place", 64)
+    return z3.Implies(z3.ULT(place, text.length), after.byte(place) == text.byte(place))
+
+
+def wrote(text: Text, x: BitVecRef, at: BitVecRef, size: int, result: BitVecRef, after: Text) -> Any:
+    low_bytes = U(x) & (1 << 8 * size) - 1
+    is_right = written(text, low_bytes, at, size, B(result == 0), after)
+    return z3.And(z3.Or(result == 0, result == OUT_OF_BOUNDS), is_right)
+
+
+def write(name: str, size: int, type_: str) -> None:
+    row(f"write_{name}", f"text: room, x: {type_}, at: size", "u32",
+        f"fty_write_{name}(text, text_length, at, x)",
+        lambda p, text, x, at, result, after: wrote(text, x, at, size, result, after), True)
+    always(f"write_{name}, absent", f"x: {type_}, at: size", "u32",
+           f"fty_write_{name}(NULL, 0, at, x)", OUT_OF_BOUNDS)
+    if size > 1:
+        row(f"poke_{name}", f"text: room, x: {type_}", "u32",
+            f"text_length < {size} ? {OUT_OF_BOUNDS} : (fty_poke_{name}(text, x), 0)",
+            lambda p, text, x, result, after: wrote(text, x, ZERO, size, result, after), True)
+
+
+for name, (size, type_) in FIELDS.items():
+    if name[0] == "u":
+        write(name, size, type_)
+
+
+def wrote_sized(p: Products, text: Text, x: Any, at: Any, n: Any, result: Any, after: Text) -> Any:
+    is_refused = z3.And(result == OUT_OF_BOUNDS, is_kept(text, after))
+    of_size = (z3.Implies(n == it, wrote(text, x, at, it, result, after)) for it in range(1, 9))
+    return z3.And(z3.Implies(z3.Or(n == 0, z3.UGT(n, 8)), is_refused), *of_size)
+
+
+row("write_uint", "text: room, x: u64, at: size, n: size", "u32",
+    "fty_write_uint(text, text_length, at, n, x)", wrote_sized, True)
+always("write_uint, absent", "x: u64, at: size, n: size", "u32",
+       "fty_write_uint(NULL, 0, at, n, x)", OUT_OF_BOUNDS)
+
+# ---------------------------------------------------------------- parts of a view
+always("absent", "x: u8", "bool",
+       f"({{ const fty_view it = fty_absent(); {IS_ABSENT.format('it')}; }})", 1)
+
+
+def is_within(text: Text, at: BitVecRef, n: BitVecRef) -> z3.BoolRef:
+    return z3.And(z3.ULE(at, text.length), z3.ULE(n, text.length - at))
+
+
+def part(name: str, extra: str, call: str, place: Rule) -> None:
+    """`place` returns where the part begins, how long it is, and whether it is there. Of an absent
+    view, each part has null bytes and no length."""
+
+
+    def found(which: int, none: BitVecRef) -> Rule:
+        def value(*given: Any) -> BitVecRef:
+            outcome = place(*given)
+            return z3.If(outcome[2], outcome[which], none)
+
+        return value
+
+    of, it = f"text: bytes, {extra}", f"it = fty_{call}"
+    row(f"{name}, place", of, "u64", f"({{ const fty_view {it}; {IN_VIEW}; }})", found(0, ABSENT))
+    row(f"{name}, length", of, "u64", f"fty_{call}.length", found(1, ZERO))
+    always(f"{name}, absent", extra, "bool",
+           f"({{ const fty_view view = fty_absent(), {it}; {IS_ABSENT.format('it')}; }})", 1)
+
+
+def to_the_end(p: Products, text: Text, at: BitVecRef) -> Outcome:
+    return at, text.length - at, z3.ULE(at, text.length)
+
+
+def at_offset(size: int) -> Rule:
+    def place(p: Products, text: Text, at: BitVecRef) -> Outcome:
+        offset = z3.ZeroExt(64 - 8 * size, together(text.bytes(at, size)))
+        start, count, is_there = to_the_end(p, text, offset)
+        return start, count, z3.And(text.has(at, size), offset != 0, is_there)
+
+    return place
+
+
+def items(p: Products, text: Text, at: Any, n: Any, size: Any) -> Outcome:
+    """As many as the size fits in what is there, computed in the bits of a length."""
+    low: Rule = lambda it: z3.simplify(z3.Extract(inputs.POINTER - 1, 0, it))
+    rest = z3.simplify(low(text.length) - low(at))
+    fit = z3.Or(size == 0, z3.ULE(low(n), p.arithmetic.divide(rest, low(size))))
+    length = z3.ZeroExt(64 - inputs.POINTER, p.arithmetic.multiply(low(n), low(size)))
+    return at, length, z3.And(z3.ULE(at, text.length), fit)
+
+
+part("part", "at: size, n: size", "part(view, at, n)",
+     lambda p, text, at, n: (at, n, is_within(text, at, n)))
+part("items", "at: size, n: size, size: size", "items(view, at, n, size)", items)
+part("from", "at: size", "from(view, at)", to_the_end)
+for size in (2, 3, 4):
+    part(f"at_offset{8 * size}", "at: size", f"at_offset{8 * size}(view, at)", at_offset(size))
+
+
+# ---------------------------------------------------------------- copies
+def copied(
+    text: Text, at: BitVecRef, of: Text, start: BitVecRef, n: BitVecRef, result: Any, after: Text
+) -> Any:
+    """Each byte is that of the view before, or what it was."""
+    place, fit = z3.BitVec("place", 64), z3.And(is_within(text, at, n), is_within(of, start, n))
+    here = z3.And(fit, z3.ULT(place - at, n))
+    new = z3.If(here, of.byte(z3.simplify(start + (place - at))), text.byte(place))
+    is_right = z3.Implies(z3.ULT(place, text.length), after.byte(place) == new)
+    return z3.And(result == status(fit), is_right)
+
+
+row("write_bytes", "text: room, at: size, other: bytes", "u32",
+    "fty_write_bytes(text, text_length, at, (fty_view){other, other_length})",
+    lambda p, text, at, other, after, result, _: copied(
+        text, at, other, ZERO, other.length, result, after), True)
+row("write_bytes, own", "text: room, at: size, from: size, n: size", "u32",
+    f"n > text_length || from > text_length - n ? {OUT_OF_BOUNDS}"
+    " : (uint32_t)fty_write_bytes(text, text_length, at, (fty_view){text + from, n})",
+    lambda p, text, at, start, n, result, after: copied(
+        text, at, text, start, n, result, after), True)
+row("write_bytes, absent", "text: room, at: size", "u32",
+    "fty_write_bytes(text, text_length, at, fty_absent())",
+    lambda p, text, at, result, after: z3.And(
+        result == OUT_OF_BOUNDS, is_kept(text, after)), True)
+row("write_bytes, to none", "at: size, other: bytes", "u32",
+    "fty_write_bytes(NULL, 0, at, (fty_view){other, other_length})",
+    lambda p, at, other: status(z3.And(at == 0, other.length == 0)))
+# fmt: on
