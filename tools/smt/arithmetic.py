@@ -45,9 +45,7 @@ class Arithmetic:
             return int(bits.as_long())
         if z3.is_app_of(bits, z3.Z3_OP_ZERO_EXT):
             return self.greatest(bits.arg(0))
-        if z3.is_app_of(bits, z3.Z3_OP_CONCAT) and z3.simplify(bits.arg(0) == 0).eq(
-            z3.BoolVal(True)
-        ):
+        if z3.is_app_of(bits, z3.Z3_OP_CONCAT) and z3.is_true(z3.simplify(bits.arg(0) == 0)):
             return int((1 << bits.size() - bits.arg(0).size()) - 1)
         return int((1 << bits.size()) - 1)
 
@@ -139,9 +137,8 @@ class Arithmetic:
             return operation(n, d)
         low = operation(z3.Extract(bits - 1, 0, n), z3.Extract(bits - 1, 0, d))
         by = int(d.as_long())
-        return self.keep(
-            z3.ZeroExt(width - bits, low), high // by if operation is z3.UDiv else by - 1
-        )
+        most = high // by if operation is z3.UDiv else by - 1
+        return self.keep(z3.ZeroExt(width - bits, low), most)
 
     def add_nearest(self, product: BitVecRef, n: BitVecRef, d: BitVecRef) -> None:
         """The lemma NEAREST, if n is the sum of a number a and of floor(d / 2), and cannot wrap."""

@@ -8,12 +8,12 @@ from z3 import BitVecRef
 
 import inputs
 from c_row import FIELDS, OUT_OF_BOUNDS, always, fallible, in_c, row, status
-from cases import Rule, written
+from cases import Rule
 from rules import B, Products, S, Text, U, together, wrap
+from scalars import ZERO, written
 from values import constant
 
 Outcome = tuple[Any, ...]
-ZERO = constant(0)
 ABSENT = constant(-1)
 PLACE = "(uint64_t)(uintptr_t){}.bytes - (uintptr_t)view.bytes"
 IS_ABSENT = "{0}.bytes == NULL && {0}.length == 0"
@@ -119,7 +119,7 @@ def is_kept(text: Text, after: Text) -> z3.BoolRef:
     return z3.Implies(z3.ULT(place, text.length), after.byte(place) == text.byte(place))
 
 
-def wrote(text: Text, x: BitVecRef, at: BitVecRef, size: int, result: BitVecRef, after: Text) -> Any:
+def wrote(text: Text, x: Any, at: Any, size: int, result: BitVecRef, after: Text) -> Any:
     low_bytes = U(x) & (1 << 8 * size) - 1
     is_right = written(text, low_bytes, at, size, B(result == 0), after)
     return z3.And(z3.Or(result == 0, result == OUT_OF_BOUNDS), is_right)

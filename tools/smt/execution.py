@@ -13,33 +13,27 @@ from z3 import BitVecRef, BoolRef
 
 import steps
 from arithmetic import Arithmetic
-from ir import (
-    LABEL,
-    NAME,
-    Attributes,
-    Function,
-    Instruction,
-    Module,
-    split_commas,
-    take_attributes,
-    take_type,
-)
-from memory import Memory, Object, globals_of
+from ir import LABEL, NAME, Attributes, Function, Instruction, Module
+from ir import split_commas, take_attributes, take_type
+from memory import Memory, Objects, globals_of
 from state import Goals, State
 
 from values import (
-    NO, YES, Address, Ended, Number, Unsupported, Value, any_of, constant, is_set, number_of, settle,
+    NO, YES, Address, Ended, Names, Number, Unsupported, Value, any_of, constant, is_set, number_of,
+    settle,
 )  # fmt: skip
 
 PANICS = re.compile(r"panic|unwrap_failed|expect_failed|slice_index|len_mismatch")
 PHI = re.compile(rf"\[ (.*?), ({NAME}) \]")
+# What a call promises of its result, the name of the function, and the texts of the arguments.
+Called = tuple[Attributes, str, list[str]]
 
 
 class End(NamedTuple):
     """How a path returns."""
 
     value: Value
-    memory: dict[str, Object]
+    memory: Objects
     conditions: list[BoolRef]
 
 
@@ -49,9 +43,7 @@ class Cuts(Protocol):
     def is_head(self, function: Function, block: str) -> bool:
         """Returns whether a block is the head of a loop."""
 
-    def at_head(
-        self, function: Function, block: str, values: dict[str, Value], state: State
-    ) -> dict[str, Value] | None:
+    def at_head(self, function: Function, block: str, values: Names, state: State) -> Names | None:
         """Returns the values with which a path goes on at a head, or nothing after a turn."""
 
 
@@ -62,8 +54,8 @@ class Machine:
         self.module, self.arithmetic, self.goals, self.loops = module, arithmetic, goals, loops
         self.memory = Memory(goals, module.is_big)
         self.globals = globals_of(module)
-        self.count, self.owned = 0, dict[str, Object]()
-        self.pages = dict[str, int]()
+        self.count, self.pages = 0, dict[str, int]()
+        self.owned: Objects = {}
 
     def name(self, kind: str) -> str:
         self.count += 1
@@ -73,15 +65,11 @@ class Machine:
         return z3.BitVec(self.name("unknown"), width)
 
     def run(
-        self,
-        name: str,
-        arguments: Sequence[Value],
-        memory: dict[str, Object],
-        conditions: list[BoolRef],
+        self, name: str, arguments: Sequence[Value], memory: Objects, conditions: list[BoolRef]
     ) -> Iterator[End]:
         """Yields what each path returns."""
         function = self.module.functions[name]
-        names: dict[str, Value] = {}
+        names: Names = {}
         first = next(iter(function.blocks))
         state = State(first, 0, "", names, {**self.globals, **memory}, list(conditions), {})
         for (_, attributes, parameter), argument in zip(function.parameters, arguments):
@@ -130,7 +118,7 @@ class Machine:
             elif it.op in ("br", "switch"):
                 self.branch(function, it, state, paths)
             elif it.op == "call" and (called := self.called(it)):
-                self.call(it, *called, state._replace(at=index + 1), paths)
+                self.call(it, called, state._replace(at=index + 1), paths)
                 return
             elif it.op != "phi":
                 result = steps.step(self, it, state)
@@ -203,15 +191,14 @@ class Machine:
         if state.visits[target] > 400:
             raise Unsupported("a loop of more than 400 turns")
         phis = [it for it in function.blocks[target] if it.op == "phi"]
-        values: dict[str, Value] = {it.target: self.phi(it, state) for it in phis}
+        values: Names = {it.target: self.phi(it, state) for it in phis}
         if self.loops and self.loops.is_head(function, target):
             found = self.loops.at_head(function, target, values, state)
             if found is None:
                 return
             values = found
-        paths.append(
-            state._replace(block=target, at=0, before=state.block, names={**state.names, **values})
-        )
+        names = {**state.names, **values}
+        paths.append(state._replace(block=target, at=0, before=state.block, names=names))
 
     def phi(self, it: Instruction, state: State) -> Value:
         type_, rest = take_type(it.text)
@@ -222,7 +209,7 @@ class Machine:
 
     # ------------------------------------------------------------ calls
 
-    def called(self, it: Instruction) -> tuple[Attributes, str, list[str]] | None:
+    def called(self, it: Instruction) -> Called | None:
         """Returns the promises, the name and the arguments of a call but of an intrinsic."""
         returns, text = take_attributes(it.text)
         found = re.match(rf"({NAME})\((.*)\)$", take_type(text)[1])
@@ -239,15 +226,8 @@ class Machine:
             raise Unsupported(f"a copy of {rest}, which is passed")
         return self.promised(self.value(type_, rest, state), attributes, state)
 
-    def call(
-        self,
-        it: Instruction,
-        returns: Attributes,
-        name: str,
-        texts: list[str],
-        state: State,
-        paths: list[State],
-    ) -> None:
+    def call(self, it: Instruction, called: Called, state: State, paths: list[State]) -> None:
+        returns, name, texts = called
         if PANICS.search(name) and name not in self.module.functions:
             self.goals.panic(name[-60:], state)
         values = [self.argument(text, state) for text in texts]
@@ -303,9 +283,5 @@ class Machine:
 def out_of(bounds: tuple[int, int], bits: BitVecRef) -> BoolRef:
     """`range(low, high)`: low and what follows it up to high, which is not in it; it may wrap."""
     low, high = (constant(it, bits.size()) for it in bounds)
-    inside = z3.And if bounds_in_order(low, high) else z3.Or
+    inside = z3.And if z3.is_true(z3.simplify(z3.ULT(low, high))) else z3.Or
     return z3.Not(inside(z3.UGE(bits, low), z3.ULT(bits, high)))
-
-
-def bounds_in_order(low: BitVecRef, high: BitVecRef) -> bool:
-    return bool(z3.is_true(z3.simplify(z3.ULT(low, high))))

@@ -38,9 +38,8 @@ def bodies(ir: str) -> dict[str, str]:
     for name, other in re.findall(r"^(@\S+) = .*\balias .*, ptr (@\S+)$", ir, re.M):
         found[name] = found[other]
     called = {it: set(re.findall(r"@\w+", body)) & found.keys() for it, body in found.items()}
-    return {
-        it: body + "".join(found[name] for name in sorted(called[it])) for it, body in found.items()
-    }
+    others = {it: "".join(found[name] for name in sorted(called[it])) for it in found}
+    return {it: body + others[it] for it, body in found.items()}
 
 
 def refused(tree: Path, cases: list[Row], right: dict[str, str]) -> tuple[str, str]:
@@ -90,7 +89,6 @@ def report(tree: Path, only: str) -> int:
                 verdict, shown = refused(copy, TRIED, right)
         counts[verdict] += 1
         print(f"{edit.name}: {verdict} {shown}".rstrip(), flush=True)
-    print(
-        "mutants: " + "; ".join(f"{count} {verdict}" for verdict, count in sorted(counts.items()))
-    )
+    verdicts = "; ".join(f"{count} {verdict}" for verdict, count in sorted(counts.items()))
+    print(f"mutants: {verdicts}")
     return counts["proved"] + counts["not proved"]

@@ -67,9 +67,8 @@ def inputs(case: Case, products: Products, given: Given | None = None) -> Inputs
         if value is None:
             made.variables[name] = bits
         else:
-            bits = constant(
-                int.from_bytes(value, "little") if isinstance(value, bytes) else value, bits.size()
-            )
+            number = int.from_bytes(value, "little") if isinstance(value, bytes) else value
+            bits = constant(number, bits.size())
         made.arguments.append(Number(bits))
         made.of_rule.append(z3.ZeroExt(64 - POINTER, bits) if type_ == "size" else bits)
     return made
@@ -120,9 +119,8 @@ def chosen(case: Case, chance: random.Random) -> Given:
         half = 1 << width // 2
         edge = chance.choice([0, 1, half >> 1, half, 1 << width - 1, 1 << chance.randrange(width)])
         short = chance.getrandbits(chance.randrange(1, width + 1))
-        pick = chance.choice(
-            [edge + chance.choice([-1, 0, 0, 1]), short, chance.getrandbits(width)]
-        )
+        near = edge + chance.choice([-1, 0, 0, 1])
+        pick = chance.choice([near, short, chance.getrandbits(width)])
         pick = chance.randrange(8) if name == "at" else pick
         given[name] = (pick if chance.random() < 0.5 else -pick) & (1 << width) - 1
     return given
@@ -142,9 +140,9 @@ def result_width(case: Case) -> int:
     type_ = case.returns
     if type_[0] == "?":
         return 2 * int(type_[2:])
-    return (
-        {3: 32}.get(int(type_[1:-1]), 8 * int(type_[1:-1])) if type_[0] == "[" else width_of(type_)
-    )
+    if type_[0] == "[":
+        return 32 if type_ == "[3]" else 8 * int(type_[1:-1])
+    return width_of(type_)
 
 
 def shown_result(case: Case, result: int) -> str:
@@ -165,10 +163,8 @@ class Numbers:
         self.row = (ctypes.c_uint64 * (2 * count)).from_address(self.address)
 
     def put(self, index: int, number: int) -> None:
-        self.row[2 * index], self.row[2 * index + 1] = (
-            number & (1 << 64) - 1,
-            number >> 64 & (1 << 64) - 1,
-        )
+        for i in range(2):
+            self.row[2 * index + i] = number >> 64 * i & (1 << 64) - 1
 
 
 def run_library(library: ctypes.CDLL, case: Case, given: Given) -> tuple[int, dict[str, bytes]]:

@@ -59,11 +59,8 @@ class Integers:
             if low < 0 or high >= size:
                 below = z3.If(n < 0, n + size, n) if low < 0 else n
                 once = z3.If(n >= size, n - size, below) if high >= size else below
-                n = (
-                    once
-                    if -size <= low and high < 2 * size
-                    else self.parts(n, (low, high), size)[1]
-                )
+                is_once = -size <= low and high < 2 * size
+                n = once if is_once else self.parts(n, (low, high), size)[1]
                 low, high = 0, size - 1
             self.values[term.get_id()] = term, n, (low, high)
         return self.values[term.get_id()][1:]
@@ -120,10 +117,8 @@ class Integers:
             return quotient, (low >> bottom, high >> bottom)
         if least != most:
             raise Unsupported(f"{term.decl()} of two unknowns")
-        if kind in (z3.Z3_OP_BLSHR, z3.Z3_OP_BUDIV, z3.Z3_OP_BUDIV_I) and (
-            kind == z3.Z3_OP_BLSHR or least
-        ):
-            by = 1 << least if kind == z3.Z3_OP_BLSHR else least
+        by = 1 << least if kind == z3.Z3_OP_BLSHR else least
+        if kind in (z3.Z3_OP_BLSHR, z3.Z3_OP_BUDIV, z3.Z3_OP_BUDIV_I) and by:
             return self.parts(a, (low, high), by)[0], (low // by, high // by)
         if kind in (z3.Z3_OP_BUREM, z3.Z3_OP_BUREM_I) and least:
             return self.parts(a, (low, high), least)[1], (0, min(high, least - 1))

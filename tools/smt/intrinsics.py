@@ -56,8 +56,6 @@ def compute(machine: Machine, kind: str, width: int, bits: list[BitVecRef]) -> B
     x = bits[0]
     if kind == "abs":
         return machine.arithmetic.magnitude(x)
-    if kind == "expect":
-        return x
     if kind in ("smin", "smax", "umin", "umax"):
         less = steps.COMPARE[kind[0] + "lt"](*bits)
         return z3.If(less, *bits) if kind.endswith("min") else z3.If(less, bits[1], x)
@@ -105,15 +103,13 @@ def copy(machine: Machine, name: str, values: list[Value], state: State) -> None
     if not name.startswith("memset"):
         source = address_of(values[1])
         if not is_constant(size) or is_apart and source.object == target.object:
-            size = extend(False, 64, size)
-            machine.memory.move(target, source, size, poison, is_apart, state)
+            count = Number(extend(False, 64, size), poison)
+            machine.memory.move(target, source, count, is_apart, state)
             return
     if not is_constant(size) or not z3.is_false(poison):
         raise Unsupported(f"{name} of unknown length")
-    count, memory = int(size.as_long()), machine.memory
-    if not count:
-        return
-    if name.startswith("memset"):
-        memory.write(target, [number_of(values[1])] * count, 1, state)
-        return
-    memory.write(target, memory.read(source, count, 1, state), 1, state)
+    length, memory = int(size.as_long()), machine.memory
+    if length and name.startswith("memset"):
+        memory.write(target, [number_of(values[1])] * length, 1, state)
+    elif length:
+        memory.write(target, memory.read(source, length, 1, state), 1, state)

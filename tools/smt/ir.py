@@ -43,6 +43,16 @@ class Function(NamedTuple):
     parameters: list[tuple[str, Attributes, str]]
     blocks: dict[str, list[Instruction]]
 
+    def repeats(self, block: str) -> bool:
+        """Returns whether a block can be reached again from itself."""
+        seen: set[str] = set()
+        ahead = [block]
+        while ahead:
+            new = set(LABEL.findall(self.blocks[ahead.pop()][-1].text)) - seen
+            seen |= new
+            ahead += new
+        return block in seen
+
 
 class Constant(NamedTuple):
     type: str

@@ -5,10 +5,10 @@ import re
 import z3
 from z3 import BitVecRef, BoolRef
 
-from ir import LABEL, Function, Instruction
+from ir import Function, Instruction
 from rules import Sums
 from state import Goals, State
-from values import Address, Number, Unsupported, Value, address_of, constant, extend, number_of
+from values import Address, Names, Number, Unsupported, address_of, constant, number_of
 
 SIZE = 8
 
@@ -17,7 +17,7 @@ class Head:
     """The head of a loop: which name has an address, which count and by how much a turn, and how
     many terms a turn adds. The names are guessed: a wrong guess has a false invariant."""
 
-    def __init__(self, block: list[Instruction], state: State, values: dict[str, Value]) -> None:
+    def __init__(self, block: list[Instruction], state: State, values: Names) -> None:
         self.entered, self.memory = values, dict(state.memory)
         self.offset = constant(0)
         self.address = next((it for it in values if isinstance(values[it], Address)), "")
@@ -44,19 +44,9 @@ class Loops:
         self.heads: list[Head] = []
 
     def is_head(self, function: Function, block: str) -> bool:
-        """Returns whether a block can be reached again from itself."""
-        seen: set[str] = set()
-        ahead = [block]
-        while ahead:
-            last = function.blocks[ahead.pop()][-1]
-            new = set(LABEL.findall(last.text)) - seen
-            seen |= new
-            ahead += new
-        return block in seen
+        return function.repeats(block)
 
-    def at_head(
-        self, function: Function, block: str, values: dict[str, Value], state: State
-    ) -> dict[str, Value] | None:
+    def at_head(self, function: Function, block: str, values: Names, state: State) -> Names | None:
         """Before the first turn, shows the invariant and returns any values that meet it. After a
         turn, shows that the values meet it again."""
         if state.visits[block] > 1:
@@ -73,7 +63,7 @@ class Loops:
         state.visits[f"head {block}"] = len(self.heads)
         self.heads.append(head)
         offset = head.offset = z3.BitVec(f"offset{len(self.heads)}", 64)
-        unknown: dict[str, Value] = {head.address: Address(self.text, offset)}
+        unknown: Names = {head.address: Address(self.text, offset)}
         for name, it in values.items():
             if name != head.address:
                 unknown[name] = Number(self.expected(head, name, number_of(it), offset))
@@ -91,7 +81,7 @@ class Loops:
         turns = z3.UDiv(done, constant(head.terms * SIZE))
         return number_of(head.entered[name]).bits + turns * head.counts[name]
 
-    def show(self, head: Head, values: dict[str, Value], state: State) -> None:
+    def show(self, head: Head, values: Names, state: State) -> None:
         address = address_of(values[head.address])
         if address.object != self.text:
             raise Unsupported("a loop over another array")

@@ -6,7 +6,7 @@ from collections.abc import Callable
 from typing import NamedTuple, Union
 
 import z3
-from z3 import BitVecRef, BoolRef
+from z3 import BitVecRef
 
 from ir import Module, array_of, size_of, split_commas, stored_size, take_type
 from state import Goals, State
@@ -48,6 +48,7 @@ class Slice(NamedTuple):
 
 
 Object = Union[Cells, Slice]
+Objects = dict[str, Object]
 NOTHING = Number(constant(0, 8), YES)
 
 
@@ -56,8 +57,8 @@ def parts_of(address: Address) -> list[Cell]:
 
 
 @cache
-def globals_of(module: Module) -> dict[str, Object]:
-    found: dict[str, Object] = {}
+def globals_of(module: Module) -> Objects:
+    found: Objects = {}
     for name, (type_, text, align) in module.constants.items():
         try:
             if text[:2] != 'c"' and (module.is_big or module.pointer != 64):
@@ -149,27 +150,18 @@ class Memory:
         at = places[0]
         state.memory[name] = it._replace(cells=it.cells[:at] + (*cells,) + it.cells[at + size :])
 
-    def move(
-        self,
-        to: Address,
-        of: Address,
-        size: BitVecRef,
-        poison: BoolRef,
-        is_apart: bool,
-        state: State,
-    ) -> None:
+    def move(self, to: Address, of: Address, count: Number, is_apart: bool, state: State) -> None:
         """Copies so many bytes, of one slice to it or to another, as if all were read first. If
         `is_apart`, they must not overlap, except in one place."""
-        target, source = self.object(to, state), self.object(of, state)
+        target, source, size = self.object(to, state), self.object(of, state), count.bits
         if not (isinstance(target, Slice) and isinstance(source, Slice)):
             raise Unsupported("memmove of unknown length")
         if target.is_constant:
             self.goals.bad("a store to a constant", state)
         for it, place in ((target, to), (source, of)):
             outside = z3.Or(z3.UGT(place.offset, it.length), z3.UGT(size, it.length - place.offset))
-            wrong = z3.Or(poison, place.poison, outside)
+            wrong = z3.Or(count.poison, place.poison, outside)
             self.goals.check("a copy is poison or out of bounds", wrong, state)
-
         if is_apart and to.object == of.object:
             distances = to.offset - of.offset, of.offset - to.offset
             overlap = z3.Or([z3.And(it != 0, z3.ULT(it, size)) for it in distances])
@@ -221,8 +213,6 @@ class Memory:
             self.write(address, parts_of(value), align, state)
         else:
             bytes_ = range(0, 8 * stored_size(type_), 8)[:: -self.order]
-            parts = (
-                settle(z3.Extract(i + 7, i, value.bits)) if len(bytes_) > 1 else value.bits
-                for i in bytes_
-            )
+            parts = [settle(z3.Extract(i + 7, i, value.bits)) for i in bytes_]
+            parts = parts if len(parts) > 1 else [value.bits]
             self.write(address, [Number(it, value.poison) for it in parts], align, state)

@@ -21,14 +21,12 @@ from decimals import (
 from execution import Machine
 from inputs import byte_of, run_library
 from integers import Integers, signed, subterms
-from ir import LABEL, Function, Module
+from ir import Function, Module
 from memory import Object, Slice
-from proof import SEARCH, Refused, Unknown
-from state import LIMIT, Goals, State
-
-from values import (
-    Address, Ended, Number, Unsupported, Value, constant, is_constant, number_of,
-)  # fmt: skip
+from proof import SEARCH, Refused, Unknown, refute_known
+from state import Goals, State, solved
+from values import Address, Ended, Names, Number, Unsupported, Value, constant, is_constant
+from values import number_of
 
 
 class Row(NamedTuple):
@@ -145,9 +143,8 @@ class Parsing:
         """Compares what the processor returns of a text with what it should, and with what the
         reader of the IR says. Raises `Refused` if they differ."""
         data, f = chosen(self.row.f, chance), self.row.f
-        low, high = self.row.range or sorted(
-            chance.choices([-(2**63), 0, 2**20, 2**63 - 1], k=2)
-        )
+        edges = -(2**63), 0, 2**20, 2**63 - 1
+        low, high = self.row.range or sorted(chance.choices(edges, k=2))
         given: dict[str, int | bytes] = {"text": data, "f": f, "min": low, "max": high}
         at = f"at {data.decode()!r}" + ("" if self.row.range else f", {low} to {high}")
         right = expected(data, f, low, high)
@@ -163,7 +160,7 @@ class Parsing:
             memory: dict[str, Object] = {"text": given_text}
             size, others = Number(constant(len(data))), self.others(constant(low), constant(high))
             arguments: list[Value] = [Address("text", constant(0)), size, *others]
-            machine = Machine(self.module, Arithmetic(exact=True), Goals(self.refute_known))
+            machine = Machine(self.module, Arithmetic(exact=True), Goals(refute_known))
             (end,) = machine.run(f"@{self.row.case.symbol}", arguments, memory, [])
             read = z3.simplify(number_of(end.value).bits).as_long()
             if read != answer:
@@ -172,26 +169,20 @@ class Parsing:
 
     def check_facts(self, data: bytes) -> None:
         """The facts of a known text contradict nothing, and the definition is of its value."""
-        solver, places, (low, high) = z3.Solver(), range(len(data)), (-(2**63), 2**63 - 1)
-        solver.set("rlimit", LIMIT)
-        solver.add(n == len(data), *(text(i) == data[i] for i in places), *self.text.facts())
-        solver.add(*(self.text.facts_at(z3.IntVal(i)) for i in places))
-        is_met = solver.check() == z3.sat
+        places, (low, high) = range(len(data)), (-(2**63), 2**63 - 1)
+        facts = [n == len(data), *(text(i) == data[i] for i in places), *self.text.facts()]
+        facts += [self.text.facts_at(z3.IntVal(i)) for i in places]
         m = whole(e) * 2**self.row.f + (h + 1) / 2
         b = z3.If(s == 1, -m, m)
         fits = z3.If(z3.And(low <= b, b <= high), z3.If(b < 0, b + 2**64, b), 2 << 64)
-        solver.add(z3.If(IS_DECIMAL, fits, 1 << 64) != expected(data, self.row.f, low, high))
-        if not is_met or solver.check() != z3.unsat:
+        answer = z3.If(IS_DECIMAL, fits, 1 << 64)
+        wrong = answer != expected(data, self.row.f, low, high)
+        if solved(facts) != z3.sat or solved([*facts, wrong]) != z3.unsat:
             raise Unknown(f"the facts are false of {data!r}")
 
-    def refute_known(self, why: str, conditions: list[BoolRef]) -> None:
-        if z3.is_true(z3.simplify(z3.And(conditions))):
-            raise Refused(why)
-
     def others(self, low: BitVecRef, high: BitVecRef) -> list[Value]:
-        return (
-            [] if self.row.range else [Number(it) for it in (constant(self.row.f, 32), low, high)]
-        )
+        given = constant(self.row.f, 32), low, high
+        return [] if self.row.range else [Number(it) for it in given]
 
     def sample(self, turns: int) -> None:
         chance = random.Random(self.row.name)
@@ -237,15 +228,10 @@ class Parsing:
         self.goals += 1
         if any(z3.is_false(z3.simplify(it)) for it in conditions):
             return
-        if (answer := self.answer(conditions)) != z3.unsat:
+        answer = solved(self.premises(conditions))
+        if answer != z3.unsat:
             self.search()
             raise Unknown(f"{why}: the solver says {answer}, and no text is known that shows it")
-
-    def answer(self, conditions: list[BoolRef]) -> Any:
-        solver = z3.Solver()
-        solver.set("rlimit", LIMIT)
-        solver.add(*self.premises(conditions))
-        return solver.check()
 
     def of_integers(self, condition: BoolRef) -> BoolRef:
         self.keep(condition, [condition])
@@ -255,15 +241,9 @@ class Parsing:
 
     def is_head(self, function: Function, block: str) -> bool:
         """Returns whether a block can be reached again from itself, and has values of a turn."""
-        seen: set[str] = set()
-        ahead = [block]
-        while ahead:
-            new = set(LABEL.findall(function.blocks[ahead.pop()][-1].text)) - seen
-            seen |= new
-            ahead += new
-        return block in seen and any(it.op == "phi" for it in function.blocks[block])
+        return function.repeats(block) and any(it.op == "phi" for it in function.blocks[block])
 
-    def names(self, function: Function, values: dict[str, Value]) -> tuple[str, str, str]:
+    def names(self, function: Function, values: Names) -> tuple[str, str, str]:
         """Returns which loop it is, and the names of the index and of the other value of a turn.
         They are guessed: a wrong guess has a false invariant."""
         if len(values) != 2:
@@ -300,9 +280,7 @@ class Parsing:
             return int(2 ** (63 - self.row.f)) + 1
         return 1 if loop == "late" else int(2**self.text.places) - 1
 
-    def at_head(
-        self, function: Function, block: str, values: dict[str, Value], state: State
-    ) -> dict[str, Value] | None:
+    def at_head(self, function: Function, block: str, values: Names, state: State) -> Names | None:
         """Before the first turn, shows the invariant and returns any values that meet it. After a
         turn, shows that the values meet it again, and that the turn goes on."""
         key = f"loop {block}"
@@ -331,9 +309,9 @@ class Parsing:
 
     def any_turn(
         self, loop: str, name: str, other: str, numbers: list[Number], state: State
-    ) -> dict[str, Value]:
-        unknown = [z3.BitVec(f"{it}{len(self.heads)}", numbers[i].bits.size())
-                   for i, it in enumerate(("index", "value"))]  # fmt: skip
+    ) -> Names:
+        kinds = (f"{it}{len(self.heads)}" for it in ("index", "value"))
+        unknown = [z3.BitVec(it, number.bits.size()) for it, number in zip(kinds, numbers)]
         for it, most in zip(unknown, ((1 << 63) - 1, self.most(loop))):
             self.integers.bounds[str(it)] = 0, most
         now = [self.integers.number(it) for it in unknown]
@@ -359,7 +337,7 @@ class Parsing:
         try:
             for end in machine.run(at, arguments, {"text": self.memory["text"]}, []):
                 self.check(number_of(end.value), end.conditions)
-                is_met = is_met or self.answer(end.conditions) == z3.sat
+                is_met = is_met or solved(self.premises(end.conditions)) == z3.sat
         except Unsupported:
             self.search()
             raise

@@ -18,10 +18,10 @@ from integers import signed, subterms
 from ir import Module
 from linear import Linear
 from memory import NOTHING, Cells
-from proof import SEARCH, Refused, Unknown
+from proof import SEARCH, Refused, Unknown, refute_known
 from row import FORMATS
-from state import LIMIT, Goals
-from values import NO, Address, Number, Unsupported, Value, constant, is_constant, number_of, settle
+from state import Goals, solved
+from values import Address, Number, Unsupported, Value, constant, is_constant, number_of, settle
 
 # More than the longest text has.
 ROOM = 32
@@ -119,9 +119,8 @@ class Apart(Arithmetic):
         self.bits, self.f = bits, f
 
     def magnitude(self, bits: BitVecRef) -> BitVecRef:
-        if not (bits.eq(self.bits) or z3.is_app_of(bits, z3.Z3_OP_SIGN_EXT)) or not (
-            bits.eq(self.bits) or bits.arg(0).eq(self.bits)
-        ):
+        of = bits.arg(0) if z3.is_app_of(bits, z3.Z3_OP_SIGN_EXT) else bits
+        if not of.eq(self.bits):
             raise Unsupported(f"the magnitude of {bits}")
         high = z3.BitVec("whole", bits.size() - self.f)
         size = z3.Concat(high, z3.BitVec("rest", self.f)) if self.f else high
@@ -147,10 +146,8 @@ class Printing:
         self.bits = z3.BitVec("bits", row.width)
         self.integers, self.arithmetic = Linear(), Apart(self.bits, row.f)
         # |bits| is at most 2^(width - 1).
-        self.integers.bounds |= {
-            "whole": (0, 1 << row.width - 1 - row.f),
-            "rest": (0, 2**row.f - 1),
-        }
+        most = 1 << row.width - 1 - row.f
+        self.integers.bounds |= {"whole": (0, most), "rest": (0, 2**row.f - 1)}
         self.read: dict[int, tuple[BoolRef, BoolRef]] = {}
         self.known: dict[int, tuple[BoolRef, list[str]]] = {}
         self.groups: dict[int, frozenset[str]] = {}
@@ -167,11 +164,10 @@ class Printing:
 
     def judge(self, chance: random.Random) -> int:
         """Compares what the processor prints of a value with what it should."""
+        half = 1 << self.row.width - 1
         bits = chance.getrandbits(chance.randrange(1, self.row.width + 1))
-        bits += chance.choice([-1, 0, 0, 1]) + chance.choice([0, 0, 1 << self.row.width - 1])
-        bits = (bits + (1 << self.row.width - 1)) % (1 << self.row.width) - (
-            1 << self.row.width - 1
-        )
+        bits += chance.choice([-1, 0, 0, 1]) + chance.choice([0, 0, half])
+        bits = (bits + half) % (2 * half) - half
         text, right = self.printed(bits), shortest(bits, self.f)
         if text != right:
             raise Refused(f"the compiled Rust prints {text}, not {right}, at {bits}")
@@ -182,7 +178,7 @@ class Printing:
         chance = random.Random(self.row.name)
         for _ in range(turns):
             bits = self.judge(chance)
-            machine = Machine(self.module, Arithmetic(exact=True), Goals(self.refute_known))
+            machine = Machine(self.module, Arithmetic(exact=True), Goals(refute_known))
             (end,) = self.ends(machine, constant(bits, self.row.width))
             text = "".join(chr(z3.simplify(it.bits).as_long()) for it in end[0])
             if text != self.printed(bits):
@@ -194,10 +190,6 @@ class Printing:
         chance = random.Random(0)
         for _ in range(10 * SEARCH):
             self.judge(chance)
-
-    def refute_known(self, why: str, conditions: list[BoolRef]) -> None:
-        if z3.is_true(z3.simplify(z3.And(conditions))):
-            raise Refused(why)
 
     def ends(
         self, machine: Machine, bits: BitVecRef
@@ -258,10 +250,7 @@ class Printing:
     def solved(self, conditions: list[BoolRef]) -> Any:
         key = frozenset(it.get_id() for it in conditions)
         if key not in self.answers:
-            solver = z3.Solver()
-            solver.set("rlimit", LIMIT)
-            solver.add(*self.closed(conditions))
-            self.answers[key] = solver.check(), conditions
+            self.answers[key] = solved(self.closed(conditions)), conditions
         return self.answers[key][0]
 
     def refute(self, why: str, conditions: list[BoolRef]) -> None:
@@ -309,9 +298,8 @@ class Printing:
         text = text[is_minus:]
         is_point = [z3.is_int_value(it) and it.as_long() == ord(".") for it in text]
         point = is_point.index(True) if True in is_point else len(text)
-        first, second = (
-            [it - ord("0") for it in part] for part in (text[:point], text[point + 1 :])
-        )
+        digits = [it - ord("0") for it in text]
+        first, second = digits[:point], digits[point + 1 :]
         if not first or point == len(text) - 1:
             raise Unknown("a text without digits")
         for digit in first + second:
@@ -333,9 +321,8 @@ class Printing:
             self.exclude(why, known, z3.And(is_n, z3.Not(right)))
         if digits:
             less, is_first = ten // 10, z3.And(first == number(digits[:-1]), rest >= 0)
-            floor = z3.And(
-                first * 2**self.f <= rest * less, rest * less < (first + 1) * 2**self.f
-            )
+            scaled, one = rest * less, 2**self.f
+            floor = z3.And(first * one <= scaled, scaled < (first + 1) * one)
             wrong = z3.And(is_first, z3.Not(floor))
             self.exclude("the first places are no floor", known, wrong)
             # By NEIGHBORS, if any numeral is, then so is one of these two.

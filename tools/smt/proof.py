@@ -38,6 +38,12 @@ class Unknown(Exception):
     """The function is not proved."""
 
 
+def refute_known(why: str, conditions: list[BoolRef]) -> None:
+    """Refuses the function, if known arguments meet the conditions."""
+    if z3.is_true(z3.simplify(z3.And(conditions))):
+        raise Refused(why)
+
+
 class Proof:
     def __init__(
         self, module: Module, case: Case, library: ctypes.CDLL | None, goals: Path | None = None
@@ -166,9 +172,7 @@ class Proof:
             self.compare(products, here, read.as_long(), at)
             return
         result, left = run_library(self.library, self.case, given)
-        here = known._replace(memory={
-            name: Slice(constant(len(data)), 1, byte_of(data)) for name, data in left.items()
-        })  # fmt: skip
+        slices = {it: Slice(constant(len(data)), 1, byte_of(data)) for it, data in left.items()}
         same = read.eq(constant(result, read.size()))
         for name, data in left.items():
             it = end.memory[name]
@@ -176,7 +180,7 @@ class Proof:
             same &= all(it.byte(constant(i)).eq(constant(byte, 8)) for i, byte in enumerate(data))
         if not same:
             raise Refused(f"the reader says {read}, and the processor {result}, {at}")
-        self.compare(products, here, result, at)
+        self.compare(products, known._replace(memory={**slices}), result, at)
 
     def compare(self, products: Products, given: Inputs, result: int, at: str) -> None:
         width = result_width(self.case)
@@ -202,11 +206,8 @@ class Proof:
         chance = random.Random(self.case.name)
         for _ in range(3 if self.arithmetic.nodes else 0):
             given = chosen(self.case, chance)
-            values = [
-                (it, constant(number, it.size()))
-                for name, it in self.given.variables.items()
-                if isinstance(number := given.get(name), int)
-            ]
+            known = ((it, given.get(name)) for name, it in self.given.variables.items())
+            values = [(it, constant(n, it.size())) for it, n in known if isinstance(n, int)]
             fact = self.arithmetic.contradicted(values)
             if fact is not None:
                 raise Unknown(f"a fact is false at {shown(self.case, given)}: {fact}")

@@ -13,6 +13,8 @@ OPTIONS = """--crate-type lib -C opt-level=0 -C no-prepopulate-passes -C debugin
 
 # A file, its line, and numbers of fraction bits of the types in the name.
 Called = tuple[str, int, list[int]]
+CALL = r"^  (?:\S+ = )?call [^@]*@(\w+)"
+FILE = re.compile(r'^(!\d+) = !DIFile\(filename: "[^"]*/(?:src|c)/generated/([^"]*)"', re.M)
 FUNCTION = re.compile(r'[nN]ame: "(\w+)", scope: !\d+, file: (!\d+), line: (\d+)')
 
 
@@ -21,24 +23,11 @@ def called(tree: Path) -> list[tuple[str, list[Called]]]:
     rows = table.rows(True)
     with tempfile.TemporaryDirectory() as room:
         ir = build.compiled(tree, Path(room), table.wrappers(rows), OPTIONS)
-    files = dict(
-        re.findall(r'^(!\d+) = !DIFile\(filename: "[^"]*/(?:src|c)/generated/([^"]*)"', ir, re.M)
-    )
-    places = {
-        name: (
-            files[file],
-            int(line),
-            [int(it, 16) for it in re.findall(r"FixedI\d\dKm(\w+?)_", name)],
-        )
-        for name, file, line in FUNCTION.findall(ir)
-        if file in files
-    }
+    files, places = dict(FILE.findall(ir)), {}
+    for name, file, line in FUNCTION.findall(ir):
+        if file in files:
+            bits = [int(it, 16) for it in re.findall(r"FixedI\d\dKm(\w+?)_", name)]
+            places[name] = files[file], int(line), bits
     bodies = dict(re.findall(r"^define [^@]*@(\w+)(\(.*?^})", ir, re.M | re.S))
-    calls = {
-        it.symbol: re.findall(r"= call [^@]*@(\w+)|^  call [^@]*@(\w+)", bodies[it.symbol], re.M)
-        for it in rows
-    }
-    return [
-        (it.name, [places[name] for pair in calls[it.symbol] for name in pair if name in places])
-        for it in rows
-    ]
+    calls = ((it.name, re.findall(CALL, bodies[it.symbol], re.M)) for it in rows)
+    return [(row, [places[it] for it in names if it in places]) for row, names in calls]

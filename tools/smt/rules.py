@@ -190,11 +190,8 @@ class Products:
             if divisor.size() == 64:
                 # A fact of quotients says that this is their product as integers.
                 multiple = U(arithmetic.multiply(q, divisor))
-                is_nearest = z3.And(
-                    divisor == d,
-                    2 * (multiple - U(product)) <= U(d),
-                    2 * (U(product) - multiple) < U(d),
-                )
+                over, under = multiple - U(product), U(product) - multiple
+                is_nearest = z3.And(divisor == d, 2 * over <= U(d), 2 * under < U(d))
                 found.append((z3.If(negative, -U(q), U(q)), is_nearest))
         return found
 
@@ -298,9 +295,8 @@ class Sums:
     def product(self, offset: BitVecRef, bits: int) -> BitVecRef:
         """The product of the term at an offset."""
         words = (together(self.text.bytes(offset + i, 4)[::-1]) for i in (0, 4))
-        product = self.products.arithmetic.multiply(
-            *(z3.SignExt(32, z3.simplify(it)) for it in words)
-        )
+        extended = (z3.SignExt(32, z3.simplify(it)) for it in words)
+        product = self.products.arithmetic.multiply(*extended)
         return z3.SignExt(bits - 64, product) if bits > 64 else product
 
     def define(self, offset: BitVecRef, count: int, bits: int) -> None:

@@ -14,10 +14,8 @@ from rules import (
 
 # fmt: off
 # ---------------------------------------------------------------- integers of 24 bits
-LARGEST = 0xFF_FFFF
-for T, make, get, inside in (
-    ("Uint24", "Uint24::new", "to_u32", "x"), ("GlyphId24", "GlyphId24::new", "to_u32", "x"),
-):
+LARGEST, ZERO = 0xFF_FFFF, z3.BitVecVal(0, 64)
+for T in ("Uint24", "GlyphId24"):
     case(f"{T}::new", "x: u32", "u32", f"{T}::new(x).to_u32()",
          lambda p, x: wrap(32, low(U(x), LARGEST)))
     case(f"{T}::checked_new", "x: u32", "?u32", f"{T}::checked_new(x).map({T}::to_u32)",
@@ -68,14 +66,9 @@ Nullable::<Offset24> 3 u32 Nullable::<Offset24>::from_raw(Uint24::new(x).to_raw(
     .offset().to_u32()
 Nullable::<Offset32> 4 u32 Nullable::<Offset32>::from_raw(x.to_be_bytes()) .offset().to_u32()
 Tag 4 u32 Tag::from_u32(x) .to_u32()
-NameId 2 u16 NameId::new(x) .to_u16()
-u8 1 u8 x .to_le()
-i8 1 i8 x .to_le()
-u16 2 u16 x .to_le()
-i16 2 i16 x .to_le()
-u32 4 u32 x .to_le()
-i32 4 i32 x .to_le()
-i64 8 i64 x .to_le()""".splitlines())]
+NameId 2 u16 NameId::new(x) .to_u16()""".splitlines())]
+SCALARS += [Kind(T, int(T[1:]) // 8, T, "x", ".to_le()")
+            for T in ("u8", "i8", "u16", "i16", "u32", "i32", "i64")]
 BYTES = "abcdefgh"
 
 
@@ -89,39 +82,31 @@ def bytes_of(kind: Kind) -> None:
     # Integers of 24 bits saturate.
     clip = (lambda x: S(saturate(24, S(x)))) if T == "Int24" else (
         lambda x: low(U(x), LARGEST) if size == 3 else U(x))
+    decoded, encoded = lambda p, *v: extended(v), lambda p, *v: big_endian(clip(v[-1]), size)
+    read = lambda p, text, at=ZERO: some(text.has(at, size), extended(text.bytes(at, size)))
     given, array = ", ".join(f"{it}: u8" for it in BYTES[:size]), f"[{', '.join(BYTES[:size])}]"
-    case(f"{T}::from_raw", given, result, f"<{value} as Scalar>::from_raw({array}){get}",
-         lambda p, *v: extended(v))
-    case(f"{T}::to_raw", f"x: {i}", f"[{size}]", f"Scalar::to_raw({make})",
-         lambda p, x: big_endian(clip(x), size))
+    case(f"{T}::from_raw", given, result, f"<{value} as Scalar>::from_raw({array}){get}", decoded)
+    case(f"{T}::to_raw", f"x: {i}", f"[{size}]", f"Scalar::to_raw({make})", encoded)
     field = f"BigEndian::<{value}>"
-    case(f"BigEndian::<{T}>::get", given, result, f"{field}::new({array}).get(){get}",
-         lambda p, *v: extended(v))
+    case(f"BigEndian::<{T}>::get", given, result, f"{field}::new({array}).get(){get}", decoded)
     case(f"BigEndian::<{T}>::set", f"{given}, x: {i}", f"[{size}]",
          f"{{ let mut field = {field}::new({array}); field.set({make});"
-         " Scalar::to_raw(field.get()) }",
-         lambda p, *v: big_endian(clip(v[-1]), size))
+         " Scalar::to_raw(field.get()) }", encoded)
     case(f"{T}::read_at", "text: bytes, at: u64", f"?{result}",
-         f"<{value} as Scalar>::read_at(text, at as usize).map(|it| it{get})",
-         lambda p, text, at: some(text.has(at, size), extended(text.bytes(at, size))))
+         f"<{value} as Scalar>::read_at(text, at as usize).map(|it| it{get})", read)
     taken = f"{{ let mut rest = text; let taken = <{value} as Scalar>::take_from(&mut rest);"
     case(f"{T}::take_from", "text: bytes", f"?{result}", f"{taken} taken.map(|it| it{get}) }}",
-         lambda p, text: some(text.has(ZERO, size), extended(text.bytes(ZERO, size))))
+         read)
     case(f"{T}::take_from, rest", "text: bytes, at: u64", "?u8",
          f"{taken} let _ = taken; rest.get(at as usize).copied() }}",
          lambda p, text, at: rest_byte(text, at, size))
     if T in "FWord UfWord GlyphId16 GlyphId24 NameId LongDateTime".split():
-        case(f"{T}::to_be_bytes", f"x: {i}", f"[{size}]", f"{make}.to_be_bytes()",
-             lambda p, x: big_endian(clip(x), size))
+        case(f"{T}::to_be_bytes", f"x: {i}", f"[{size}]", f"{make}.to_be_bytes()", encoded)
     if T in ("Uint24", "Int24", "GlyphId24", "Tag"):
-        case(f"{T}::from_be_bytes", given, result, f"{T}::from_be_bytes({array}){get}",
-             lambda p, *v: extended(v))
+        case(f"{T}::from_be_bytes", given, result, f"{T}::from_be_bytes({array}){get}", decoded)
     relation(f"{T}::write_at", f"text: room, x: {i}, at: u64", "bool",
              f"{make}.write_at(text, at as usize).is_some()",
              lambda p, text, x, at, result, after: written(text, clip(x), at, size, result, after))
-
-
-ZERO = z3.BitVecVal(0, 64)
 
 
 def rest_byte(text: Text, at: Any, size: int) -> Any:

@@ -2,13 +2,13 @@
 
 from __future__ import annotations
 
-from collections.abc import Callable
-from typing import TYPE_CHECKING, NamedTuple
+from collections.abc import Callable, Iterable
+from typing import TYPE_CHECKING, Any, NamedTuple
 
 import z3
 from z3 import BoolRef
 
-from values import YES, Ended, Value, settle
+from values import YES, Ended, Names, settle
 
 if TYPE_CHECKING:
     from memory import Object
@@ -26,7 +26,7 @@ class State(NamedTuple):
     block: str
     at: int
     before: str
-    names: dict[str, Value]
+    names: Names
     memory: dict[str, "Object"]
     conditions: list[BoolRef]
     visits: dict[str, int]
@@ -34,6 +34,14 @@ class State(NamedTuple):
     def copy(self) -> State:
         copies = dict(self.names), dict(self.memory), list(self.conditions), dict(self.visits)
         return State(self.block, self.at, self.before, *copies)
+
+
+def solved(conditions: Iterable[BoolRef]) -> Any:
+    """Returns what the solver says of conditions."""
+    solver = z3.Solver()
+    solver.set("rlimit", LIMIT)
+    solver.add(*conditions)
+    return solver.check()
 
 
 class Goals:
@@ -44,10 +52,7 @@ class Goals:
 
     def possible(self, conditions: list[BoolRef]) -> bool:
         """Returns whether the conditions may be met."""
-        solver = z3.Solver()
-        solver.set("rlimit", LIMIT)
-        solver.add(conditions)
-        return bool(solver.check() != z3.unsat)
+        return bool(solved(conditions) != z3.unsat)
 
     def check(self, why: str, condition: BoolRef, state: State) -> None:
         """The condition must not hold on the path."""

@@ -2,6 +2,8 @@
 
 from __future__ import annotations
 
+import functools
+import operator
 import re
 from collections.abc import Callable
 from typing import TYPE_CHECKING
@@ -23,17 +25,10 @@ if TYPE_CHECKING:
     from execution import Machine
 
 COMPARE: dict[str, Callable[[BitVecRef, BitVecRef], BoolRef]] = {
-    "eq": lambda a, b: a == b,
-    "ne": lambda a, b: a != b,
-    "slt": lambda a, b: a < b,
-    "sle": lambda a, b: a <= b,
-    "sgt": lambda a, b: a > b,
-    "sge": lambda a, b: a >= b,
-    "ult": z3.ULT,
-    "ule": z3.ULE,
-    "ugt": z3.UGT,
-    "uge": z3.UGE,
-}
+    "eq": operator.eq, "ne": operator.ne,
+    "slt": operator.lt, "sle": operator.le, "sgt": operator.gt, "sge": operator.ge,
+    "ult": z3.ULT, "ule": z3.ULE, "ugt": z3.UGT, "uge": z3.UGE,
+}  # fmt: skip
 
 
 def step(machine: Machine, it: Instruction, state: State) -> Value | None:
@@ -97,8 +92,8 @@ def divide(machine: Machine, it: Instruction, state: State) -> Value:
         machine.goals.check("overflow of a division", z3.Or(least, a.poison), state)
     quotient = {
         "udiv": known.divide,
-        "urem": lambda x, y: known.narrowed(z3.URem, x, y),
-        "sdiv": lambda x, y: x / y,
+        "urem": functools.partial(known.narrowed, z3.URem),
+        "sdiv": operator.truediv,
         "srem": z3.SRem,
     }[it.op]
     inexact = rest != 0 if flags else NO
@@ -197,21 +192,15 @@ def freeze(machine: Machine, it: Instruction, state: State) -> Value:
     return Number(z3.If(value.poison, machine.unknown(value.bits.size()), value.bits))
 
 
-def extract(machine: Machine, it: Instruction, state: State) -> Value:
-    structure, index = split_commas(it.text)
-    parts = operand(machine, structure, state)
+def member(machine: Machine, it: Instruction, state: State) -> Value:
+    """`extractvalue`: a part of a structure. `insertvalue`: the structure with another part."""
+    structure, *new, index = split_commas(it.text)
+    parts, at = operand(machine, structure, state), int(index)
     if not isinstance(parts, list):
         raise Unsupported(it.text)
-    return parts[int(index)]
-
-
-def insert(machine: Machine, it: Instruction, state: State) -> Value:
-    structure, new, index = split_commas(it.text)
-    parts = operand(machine, structure, state)
-    if not isinstance(parts, list):
-        raise Unsupported(it.text)
-    at = int(index)
-    return [*parts[:at], operand(machine, new, state), *parts[at + 1 :]]
+    if not new:
+        return parts[at]
+    return [*parts[:at], operand(machine, new[0], state), *parts[at + 1 :]]
 
 
 # ---------------------------------------------------------------- addresses
@@ -263,10 +252,6 @@ def address_as_number(machine: Machine, it: Instruction, state: State) -> Value:
         raise Unsupported(it.text)
     number = number_of_address(machine, address, state)
     return Number(number if width == 64 else z3.Extract(width - 1, 0, number), address.poison)
-
-
-def get_element(machine: Machine, it: Instruction, state: State) -> Value:
-    return element(machine, it.text, state)
 
 
 def element(machine: Machine, text: str, state: State) -> Address:
@@ -339,10 +324,9 @@ def compare_memory(machine: Machine, name: str, values: list[Value], state: Stat
     if not is_constant(size) or not size.as_long():
         raise Unsupported(f"{name} of such a size")
     both = [machine.memory.read(address_of(it), size.as_long(), 1, state) for it in values[:2]]
-    numbers = [number_of(it) if isinstance(it, Number) else None for it in both[0] + both[1]]
-    if None in numbers:
+    known = [it for it in both[0] + both[1] if isinstance(it, Number)]
+    if len(known) < len(both[0] + both[1]):
         raise Unsupported(f"{name} of what was not stored")
-    known = [it for it in numbers if it]
     bits = [it.bits for it in known] + [constant(0, 8)] * 2
     a, b = z3.Concat(bits[: len(both[0])] + bits[-1:]), z3.Concat(bits[len(both[0]) : -1])
     poison = any_of(*(it.poison for it in known))
@@ -386,10 +370,9 @@ STEPS: dict[str, Callable[[Machine, Instruction, State], Value | None]] = {
     "icmp": compare,
     "select": select,
     "freeze": freeze,
-    "extractvalue": extract,
-    "insertvalue": insert,
+    **dict.fromkeys(("extractvalue", "insertvalue"), member),
     "ptrtoint": address_as_number,
-    "getelementptr": get_element,
+    "getelementptr": lambda machine, it, state: element(machine, it.text, state),
     "load": load,
     "store": store,
     "alloca": allocate,

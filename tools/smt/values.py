@@ -30,6 +30,7 @@ class Address(NamedTuple):
 
 
 Value = Union[Number, Address, list["Value"]]
+Names = dict[str, Value]
 
 
 def constant(number: int, width: int = 64) -> BitVecRef:
