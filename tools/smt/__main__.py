@@ -16,7 +16,6 @@ import time
 from pathlib import Path
 from typing import Any
 
-RUSTC = "1.95"
 ROOT = Path(__file__).resolve().parents[2]
 
 try:
@@ -34,25 +33,8 @@ import rules
 import table
 from build import build
 from ir import Module
-from parsing import Parsing
-from printing import Printing
-from proof import Proof, Refused, Unknown
+from proof import fault_of
 from state import LIMIT
-from values import Unsupported
-
-
-def prove(proof: Proof | Parsing | Printing, turns: int) -> str:
-    """Returns why a function is not proved, or nothing."""
-    try:
-        proof.sample(turns)
-        proof.run()
-    except Refused as error:
-        return f"REFUSED: {error}"
-    except Unknown as error:
-        return f"not proved: {error}"
-    except Unsupported as error:
-        return f"not read: {error}"
-    return ""
 
 
 def run(options: argparse.Namespace, room: Path) -> list[str]:
@@ -66,7 +48,7 @@ def run(options: argparse.Namespace, room: Path) -> list[str]:
         began, proof = time.process_time(), table.proof_of(module, row, library, options.goals)
         # LLVM makes one function of those with the same code.
         key = table.key(module, row)
-        reason = done[key] if key and key in done else prove(proof, options.turns)
+        reason = done[key] if key and key in done else fault_of(proof, options.turns)
         found.append(reason)
         done[key] = reason
         seconds, agreed = time.process_time() - began, agreed + proof.agreed
@@ -107,7 +89,7 @@ def main() -> int:
     kind, proved = "checked" if options.checked else "release", found.count("")
     count = f"{proved} of {len(found)} functions proved in the {kind} build"
     print(f"{count}, {time.process_time():.0f} s of processor")
-    return int(proved < len(found))
+    return int(not found or proved < len(found))
 
 
 if __name__ == "__main__":

@@ -23,8 +23,7 @@ import z3
 
 from c_program import CODE, ROWS, program
 from ir import Module
-from proof import Proof, Refused, Unknown
-from values import Unsupported
+from proof import Proof, Unknown, fault_of
 
 CLANG = "clang-22"
 FLAGS = """-std=gnu11 -O2 -fno-vectorize -fno-slp-vectorize -fno-unroll-loops -fno-strict-aliasing
@@ -51,20 +50,6 @@ class Row(Proof):
             self.search()
             raise Unknown(f"more than {GOALS} goals")
         super().refute(why, conditions)
-
-
-def fault_of(proof: Row) -> str:
-    """Returns why a row is not proved, or nothing."""
-    try:
-        proof.sample(3)
-        proof.run()
-    except Refused as error:
-        return f"REFUSED: {error}"
-    except Unknown as error:
-        return f"not proved: {error}"
-    except Unsupported as error:
-        return f"not read: {error}"
-    return ""
 
 
 def prove(folder: Path, build: str, only: str) -> int:

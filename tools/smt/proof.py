@@ -4,7 +4,7 @@ import ctypes
 import random
 import re
 from pathlib import Path
-from typing import Any
+from typing import Any, Protocol
 
 import z3
 from z3 import BoolRef
@@ -22,7 +22,7 @@ from execution import End, Machine
 from memory import Slice
 from rules import Products, Sums, Text, overflows, use_width
 from state import LIMIT, QUICK, Goals
-from values import constant, number_of
+from values import Unsupported, constant, number_of
 
 # How many arguments are tried, to find one that shows a fault.
 SEARCH = 3000
@@ -42,6 +42,28 @@ def refute_known(why: str, conditions: list[BoolRef]) -> None:
     """Refuses the function, if known arguments meet the conditions."""
     if z3.is_true(z3.simplify(z3.And(conditions))):
         raise Refused(why)
+
+
+class Provable(Protocol):
+    def sample(self, turns: int) -> None:
+        ...
+
+    def run(self) -> None:
+        ...
+
+
+def fault_of(proof: Provable, turns: int = 3) -> str:
+    """Returns why a function is not proved, or nothing."""
+    try:
+        proof.sample(turns)
+        proof.run()
+    except Refused as error:
+        return f"REFUSED: {error}"
+    except Unknown as error:
+        return f"not proved: {error}"
+    except Unsupported as error:
+        return f"not read: {error}"
+    return ""
 
 
 class Proof:

@@ -1,10 +1,12 @@
-"""The reader of the second proof finds what is undefined in LLVM's IR, and nothing else. All rows
-run in one process, by the Python that has the solver."""
+"""The reader of the second proof finds what is undefined in LLVM's IR, and nothing else, and its
+integers are the numbers of its bits. All rows run in one process, by the Python that has the
+solver."""
 
 import json
 import pathlib
 import subprocess
 import unittest
+from typing import Any
 
 TOOL = pathlib.Path(__file__).resolve().parents[1] / "smt"
 
@@ -29,6 +31,7 @@ call i32 @llvm.abs.i32(i32 %x, i1 true) | call i32 @llvm.abs.i32(i32 %x, i1 fals
 call range(i32 0, 5) i32 @same(i32 %x) | call range(i32 7, 8) i32 @seven(i32 %x)
 call i32 @seven(i32 noundef poison) | call i32 @seven(i32 poison)
 call noundef i32 @small(i32 %x) | call noundef i32 @same(i32 %x)
+call i32 @expect_failed(i32 %x) | call i32 @quiet_expect_failed(i32 %x)
 %a = trunc nuw i32 %x to i8; zext i8 %a to i32 | %a = trunc i32 %x to i8; zext i8 %a to i32
 %a = trunc i32 %x to i8; zext nneg i8 %a to i32 | %a = trunc i32 %x to i8; sext i8 %a to i32
 %p = alloca i32, align 4; load i32, ptr %p, align 4 | %p = alloca i32, align 4; \
@@ -59,6 +62,10 @@ define i32 @same(i32 %x) {
 start:
   ret i32 %x
 }
+define i32 @quiet_expect_failed(i32 %x) {
+start:
+  ret i32 %x
+}
 define i32 @seven(i32 %x) {
 start:
   ret i32 7
@@ -85,13 +92,96 @@ def is_undefined(row):
 print(json.dumps([it for it in json.load(sys.stdin) if is_undefined(it)]))
 """
 
+# Prints the terms of which the integer may be another than the number of the bits, and how many
+# were read.
+TERMS = """
+import json, random, z3
+from integers import Integers
+from linear import Linear
+from values import Unsupported
+
+chance = random.Random(20261129)
+number = lambda w: z3.BitVecVal(chance.getrandbits(w), w)
+MADE = (
+    lambda w, a, b: a + b, lambda w, a, b: a - b, lambda w, a, b: ~a, lambda w, a, b: a * number(w),
+    lambda w, a, b: a & number(w), lambda w, a, b: a & (255 << chance.randrange(w)) % (1 << w),
+    lambda w, a, b: z3.LShR(a, chance.randrange(w)), lambda w, a, b: a << chance.randrange(w),
+    lambda w, a, b: z3.UDiv(a, number(w) | 1), lambda w, a, b: z3.URem(a, number(w) | 1),
+    lambda w, a, b: z3.If(z3.ULT(a, b), a, b), lambda w, a, b: z3.If(a < b, a, b),
+    lambda w, a, b: z3.Extract(w, 1, z3.ZeroExt(2, a)), lambda w, a, b: z3.Concat(
+        z3.Extract(w - 1, w // 2, a), z3.Extract(w // 2 - 1, 0, b)),
+)
+
+def term(w, depth):
+    if depth == 0:
+        return chance.choice([z3.BitVec(f"x{w}", w), z3.BitVec(f"y{w}", w), number(w)])
+    return chance.choice(MADE)(w, term(w, depth - 1), term(w, depth - 1))
+
+def is_wrong(of, it):
+    integers, names = of(), [z3.BitVec(f"{name}{it.size()}", it.size()) for name in "xy"]
+    n, (low, high) = integers.value(it)
+    values = [(name, number(it.size())) for name in names]
+    right = z3.simplify(z3.substitute(it, *values)).as_long()
+    known = [z3.Int(str(name)) == value.as_long() for name, value in values]
+    for name in getattr(integers, "defined", ()):
+        known += integers.about(name)
+    solver = z3.Solver()
+    solver.add(known)
+    is_met = solver.check() == z3.sat
+    solver.add(n != right)
+    return not is_met or solver.check() == z3.sat or not low <= right <= high
+
+def deep(it):
+    for i in range(40):
+        it = z3.If(z3.Int(f"c{i}") > 0, it, z3.IntVal(i))
+    return it
+
+wrong, read = [], 0
+for turn in range(300):
+    it = term(chance.choice([8, 16]), chance.randrange(1, 4))
+    it = z3.simplify(it) if turn % 2 else it
+    for of in (Integers, Linear):
+        try:
+            wrong += [str(it)] if is_wrong(of, it) else []
+            read += 1
+        except Unsupported:
+            pass
+linear = Linear()
+p, q = (linear.parts(deep(z3.Int(it)), (0, 1000), 7)[0] for it in "pq")
+print(json.dumps([wrong + ["one quotient of two terms"] * p.eq(q), read]))
+"""
+
+# A variable whose bytes look like a constant.
+VARIABLE = '@KEPT = internal global <{ [20 x i8] }> <{ [20 x i8] c" constant i8 1" }>, align 1'
+CONSTANTS = """
+import json, sys
+from ir import Module
+print(json.dumps([*Module(json.load(sys.stdin)).constants]))
+"""
+
+
+def told(script: str, given: object = None) -> Any:
+    """Returns what a script with the files of the second proof prints."""
+    command = ["/usr/bin/python3", "-B", "-c", script]
+    text = json.dumps(given)
+    done = subprocess.run(command, cwd=TOOL, input=text, capture_output=True, text=True)
+    if "No module named 'z3'" in done.stderr:
+        raise unittest.SkipTest("/usr/bin/python3 has no z3")
+    if done.returncode:
+        raise AssertionError(done.stderr)
+    return json.loads(done.stdout)
+
 
 class Reader(unittest.TestCase):
     def test_undefined_and_controls(self) -> None:
         rows = [tuple(line.split(" | ")) for line in ROWS.splitlines()]
-        command = ["/usr/bin/python3", "-B", "-c", RUN]
-        given = json.dumps([it for row in rows for it in row])
-        done = subprocess.run(command, cwd=TOOL, input=given, capture_output=True, text=True)
-        if "No module named 'z3'" in done.stderr:
-            raise unittest.SkipTest("/usr/bin/python3 has no z3")
-        self.assertEqual(json.loads(done.stdout), [row for row, _ in rows], done.stderr)
+        self.assertEqual(told(RUN, [it for row in rows for it in row]), [row for row, _ in rows])
+
+    def test_integers_are_the_numbers_of_bits(self) -> None:
+        wrong, read = told(TERMS)
+        self.assertEqual(wrong, [])
+        self.assertGreater(read, 400)
+
+    def test_a_variable_is_no_constant(self) -> None:
+        self.assertEqual(told(CONSTANTS, VARIABLE), [])
+        self.assertEqual(told(CONSTANTS, VARIABLE.replace("global", "constant")), ["@KEPT"])
