@@ -65,7 +65,9 @@ def rounded(w: int, most: int) -> None:
     """ "Fails by FTY_BAD_FRACTION, FTY_OUT_OF_RANGE"."""
 
     def outcome(p: Products, x: BitVecRef, f: BitVecRef) -> tuple[BitVecRef, BitVecRef]:
-        n = ((2 * S(x) + (N(1) << U(f))) >> (U(f) + 1)) << U(f)
+        n = N(0)
+        for k in range(6, 31):
+            n = z3.If(f == k, up(S(x), k) << k, n)
         is_known = z3.And(z3.UGE(f, 6), z3.ULE(f, most))
         of_known = status(fits(w, n), OUT_OF_RANGE)
         return z3.If(is_known, of_known, constant(BAD_FRACTION, 32)), wrap(w, n)

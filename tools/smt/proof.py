@@ -20,7 +20,7 @@ from ir import Module
 from loops import Loops
 from execution import End, Machine
 from memory import Slice
-from rules import Products, Sums, Text, overflows, use_width
+from rules import Products, Sums, Text, check_widths, use_width
 from state import LIMIT, QUICK, Goals
 from values import Unsupported, constant, number_of
 
@@ -105,7 +105,7 @@ class Proof:
             is_met = is_met or self.solver(conditions, self.arithmetic.facts).check() == z3.sat
         if not is_met:
             raise Unknown("no argument is known for which it returns")
-        self.refute("the rule overflows", [overflows(self.rule(end))])
+        check_widths(self.rule(end), self.arithmetic)
         self.check_facts()
 
     def rule(self, end: End) -> list[Any]:

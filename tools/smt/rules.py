@@ -2,10 +2,12 @@
 has to agree with this page and with `cases.py`.
 
 A number is a vector of W bits, which is read as a signed integer. A division by 2^k is a shift: `>>`
-rounds down. No sum or product of a rule reaches 2^(W-1), which is a goal of each row, by `overflows`:
-so this is arithmetic of integers."""
+rounds down. No sum or product of a rule reaches 2^(W-1), by the bounds of what it computes with
+(`Bounds`): so this is arithmetic of integers."""
 
+import operator
 from collections.abc import Callable, Iterable, Iterator, Sequence
+from itertools import product
 from typing import NamedTuple
 
 import z3
@@ -42,35 +44,58 @@ def B(condition: BoolRef) -> BitVecRef:
     return z3.If(condition, z3.BitVecVal(1, 1), z3.BitVecVal(0, 1))
 
 
-# What has no sum or product of its own.
-PARTS = (
-    z3.Z3_OP_SIGN_EXT, z3.Z3_OP_ZERO_EXT, z3.Z3_OP_BNUM, z3.Z3_OP_ITE, z3.Z3_OP_CONCAT,
-    z3.Z3_OP_EXTRACT, z3.Z3_OP_UNINTERPRETED, z3.Z3_OP_BAND,
-)  # fmt: skip
+class Bounds:
+    """Which integers each number of W bits in a rule is between. It has none if a sum, a difference
+    or a product may not be that of the integers."""
 
+    def __init__(self, arithmetic: Arithmetic) -> None:
+        self.arithmetic, self.known = arithmetic, dict[int, tuple[int, int]]()
 
-def overflows(terms: Iterable[BitVecRef | BoolRef]) -> BoolRef:
-    """Whether a sum, difference or product of W bits is not that of the integers."""
-    wrong, most = [z3.BoolVal(False)], 1 << W - 1
-    for it in subterms(terms):
-        if not z3.is_bv(it) or it.size() != W:
-            continue
-        parts, kind = it.children(), it.decl().kind()
-        if kind in (z3.Z3_OP_BADD, z3.Z3_OP_BSUB) and len(parts) == 2:
-            wide = [z3.SignExt(1, part) for part in (*parts, it)]
-            total = wide[0] + wide[1] if kind == z3.Z3_OP_BADD else wide[0] - wide[1]
-            wrong.append(total != wide[2])
-        elif kind == z3.Z3_OP_BNEG:
-            wrong.append(parts[0] == N(-most))
-        elif kind in (z3.Z3_OP_BMUL, z3.Z3_OP_BSHL) and any(map(is_constant, parts)):
-            n, by = sorted(parts, key=is_constant)
-            factor = by.as_signed_long() if kind == z3.Z3_OP_BMUL else 1 << by.as_long()
-            if factor <= 0 or n is parts[1] and kind == z3.Z3_OP_BSHL:
-                raise Unsupported(f"{it} in a rule")
-            wrong.append(z3.Or(n > N((most - 1) // factor), n < N(-(most // factor))))
-        elif kind not in PARTS and not (kind == z3.Z3_OP_BASHR and is_constant(parts[1])):
+    def of(self, it: BitVecRef) -> tuple[int, int]:
+        if it.get_id() not in self.known:
+            low, high = self.found(it, it.decl().kind(), it.children())
+            if low < -(1 << it.size() - 1) or high >= 1 << it.size() - 1:
+                raise Unsupported(f"{it.decl()} in a rule, which may overflow")
+            self.known[it.get_id()] = low, high
+        return self.known[it.get_id()]
+
+    def found(self, it: BitVecRef, kind: int, parts: list[BitVecRef]) -> tuple[int, int]:
+        if is_constant(it):
+            return (int(it.as_signed_long()),) * 2
+        if kind == z3.Z3_OP_SIGN_EXT:
+            return self.of(parts[0])
+        if kind == z3.Z3_OP_ZERO_EXT and parts[0].size() < it.size():
+            return 0, (1 << parts[0].size()) - 1
+        if kind == z3.Z3_OP_ITE:
+            both = [self.of(part) for part in parts[1:]]
+            return min(low for low, _ in both), max(high for _, high in both)
+        if it.decl().name() == f"product{it.size()}":
+            most = 1 << sum(self.arithmetic.signed_width(part) - 1 for part in parts)
+            return max(-most, -(1 << it.size() - 1)), min(most, (1 << it.size() - 1) - 1)
+        if it.size() == W and kind in OPERATIONS and (kind in LINEAR or is_constant(parts[-1])):
+            ends = [OPERATIONS[kind](*given) for given in product(*map(self.of, parts))]
+            return min(ends), max(ends)
+        if it.size() == W and kind not in PARTS:
             raise Unsupported(f"{it.decl()} in a rule")
-    return z3.Or(wrong)
+        return -(1 << it.size() - 1), (1 << it.size() - 1) - 1
+
+
+# What computes with numbers of W bits, each monotonic in each operand, and what takes bits from
+# elsewhere.
+LINEAR = (z3.Z3_OP_BADD, z3.Z3_OP_BSUB, z3.Z3_OP_BNEG, z3.Z3_OP_BMUL)
+OPERATIONS: dict[int, Callable[..., int]] = {
+    z3.Z3_OP_BADD: operator.add, z3.Z3_OP_BSUB: operator.sub, z3.Z3_OP_BNEG: operator.neg,
+    z3.Z3_OP_BMUL: operator.mul, z3.Z3_OP_BSHL: operator.lshift, z3.Z3_OP_BASHR: operator.rshift,
+}  # fmt: skip
+PARTS = (z3.Z3_OP_CONCAT, z3.Z3_OP_EXTRACT, z3.Z3_OP_UNINTERPRETED, z3.Z3_OP_BAND)
+
+
+def check_widths(terms: Iterable[BitVecRef | BoolRef], arithmetic: Arithmetic) -> None:
+    """Raises `Unsupported` unless each sum, difference and product of W bits is of the integers."""
+    bounds = Bounds(arithmetic)
+    for it in subterms(terms):
+        if z3.is_bv(it) and it.size() == W:
+            bounds.of(it)
 
 
 # ---------------------------------------------------------------- ranges
