@@ -57,13 +57,6 @@ def in_turn(p: Products, *v: Any) -> list[Any]:
     return image(p, *v[:6], *image(p, *v[6:]))
 
 
-def all_of(p: Products, *v: Any) -> list[list[Any]]:
-    """The numbers of `composed` and of `in_turn` that have to fit, each with those after it."""
-    entries = list(product(p, *v[:12]).values())
-    return [entries + moved(p, *map(p.result, entries), *v[12:]),
-            moved(p, *v[6:]) + moved(p, *v[:6], *image(p, *v[6:]))]
-
-
 def bounds() -> Iterator[tuple[str, BoolRef]]:
     """How far the results of the rows of laws below are from the exact images, if each number that
     is held in 32 bits fits. Both sides are times 2^16, and of two matrices times 2^32."""
@@ -123,16 +116,12 @@ for m, n in zip(ENTRIES[::2], ENTRIES[1::2]):
              product(p, *v)))
 
 # The lemmas of `bounds` are of these.
-for law, matrices, has in ((image, "a", 6), (composed, "ab", 12), (in_turn, "ab", 12)):
+for law, matrices in ((image, "a"), (composed, "ab"), (in_turn, "ab")):
     given = ", ".join(map(entries, matrices)) + ", x: i32, y: i32"
     call = f"{law.__name__}({', '.join(map(matrix, matrices))}, {SPOTS[0]})"
     for i, axis in enumerate("xy"):
         case(f"laws::{law.__name__}, {axis}", given, "i32", f"laws::{call}.{axis}.to_bits()",
              lambda p, *v, i=i, law=law: law(p, *v)[i])
-for i, name in enumerate(("composed", "in_turn")):
-    case(f"laws::checked_{name}", given, "?u64",
-         f"laws::checked_{name}({matrix('a')}, {matrix('b')}, {SPOTS[0]}).map(|it| {BOTH})",
-         lambda p, *v, i=i: (lambda n: some(all_fit(*n), two(*n[-2:])))(all_of(p, *v)[i]))
 
 
 # ---------------------------------------------------------------- scales
