@@ -1,6 +1,6 @@
 """Proves functions of the Rust in `src` for every argument, by rustc and the solver Z3.
 
-`python3 tools/smt [--checked] [--only PATTERN] [--goals FOLDER] [--tree FOLDER]`
+`python3 tools/smt [--checked] [--only PATTERN] [--jobs N] [--goals FOLDER] [--tree FOLDER]`
 
 `--checked` compiles with checks of overflow and debug assertions, and so shows that none of them
 fails. Without it, the build has neither, like a release build. `--goals` keeps each goal as a file
@@ -8,13 +8,15 @@ of SMT-LIB, for another solver."""
 
 import argparse
 import ctypes
+import multiprocessing
 import os
 import re
 import sys
 import tempfile
 import time
+from concurrent.futures import ProcessPoolExecutor
 from pathlib import Path
-from typing import Any
+from typing import Any, NamedTuple
 
 ROOT = Path(__file__).resolve().parents[2]
 
@@ -36,25 +38,50 @@ from ir import Module
 from proof import fault_of
 from state import LIMIT
 
+# What the processes share: the options, the IR, the library, and the rows in groups.
+SHARED: tuple[argparse.Namespace, Module, ctypes.CDLL, list[list[table.Row]]]
 
-def run(options: argparse.Namespace, room: Path) -> list[str]:
-    """Proves the functions whose names have a pattern, and returns why each is not, or nothing."""
-    found, agreed = [], 0
+
+class Proved(NamedTuple):
+    """A row as it is shown, why it is not proved, or nothing, and what was spent on it."""
+
+    shown: str
+    reason: str
+    agreed: int
+    seconds: float
+
+
+def prove(index: int) -> list[Proved]:
+    """Proves the rows of a group, which have one proof."""
+    options, module, library, groups = SHARED
+    found: list[Proved] = []
+    for row in groups[index]:
+        began, proof = time.process_time(), table.proof_of(module, row, library, options.goals)
+        reason = found[0].reason if found else fault_of(proof, options.turns)
+        seconds = time.process_time() - began
+        shown = f"{row.name:40} {proof.goals:3} goals {seconds:7.2f} s  {reason or 'proved'}"
+        found.append(Proved(shown, reason, proof.agreed, seconds))
+    return found
+
+
+def run(options: argparse.Namespace, room: Path) -> list[Proved]:
+    """Proves the functions whose names have a pattern, in several processes."""
+    global SHARED
     rows = [it for it in table.rows(options.exhaustive) if re.search(options.only, it.name)]
     built = build(options.tree, room, table.wrappers(rows), options.checked)
-    module, library = Module(built.ir), ctypes.CDLL(str(built.library))
-    done: dict[Any, str] = {}
-    for row in rows:
-        began, proof = time.process_time(), table.proof_of(module, row, library, options.goals)
+    module, groups = Module(built.ir), dict[Any, list[table.Row]]()
+    for index, row in enumerate(rows):
         # LLVM makes one function of those with the same code.
-        key = table.key(module, row)
-        reason = done[key] if key and key in done else fault_of(proof, options.turns)
-        found.append(reason)
-        done[key] = reason
-        seconds, agreed = time.process_time() - began, agreed + proof.agreed
-        shown = f"{proof.goals:3} goals {seconds:7.2f} s  {reason or 'proved'}"
-        print(f"{row.name:40} {shown}", flush=True)
-    print(f"the reader agrees with the processor on {agreed} arguments")
+        groups.setdefault(table.key(module, row) or index, []).append(row)
+    SHARED = options, module, ctypes.CDLL(str(built.library)), list(groups.values())
+    found: list[Proved] = []
+    # A function that aborts ends its process, and with it the run.
+    with ProcessPoolExecutor(options.jobs, multiprocessing.get_context("fork")) as pool:
+        for group in pool.map(prove, range(len(groups))):
+            for it in group:
+                print(it.shown, flush=True)
+            found += group
+    print(f"the reader agrees with the processor on {sum(it.agreed for it in found)} arguments")
     return found
 
 
@@ -64,6 +91,7 @@ def main() -> int:
     parser.add_argument("--only", default="")
     parser.add_argument("--checked", action="store_true")
     parser.add_argument("--exhaustive", action="store_true")
+    parser.add_argument("--jobs", type=int, default=os.cpu_count())
     parser.add_argument("--goals", type=Path)
     parser.add_argument("--mutants", action="store_true")
     parser.add_argument("--turns", type=int, default=3)
@@ -86,9 +114,10 @@ def main() -> int:
             return 1
     with tempfile.TemporaryDirectory() as room:
         found = run(options, Path(room))
-    kind, proved = "checked" if options.checked else "release", found.count("")
+    kind = "checked" if options.checked else "release"
+    proved, seconds = sum(not it.reason for it in found), sum(it.seconds for it in found)
     count = f"{proved} of {len(found)} functions proved in the {kind} build"
-    print(f"{count}, {time.process_time():.0f} s of processor")
+    print(f"{count}, {time.process_time() + seconds:.0f} s of processor")
     return int(not found or proved < len(found))
 
 
