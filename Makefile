@@ -59,7 +59,7 @@ fontations:
 		--config 'patch.crates-io.bytemuck.path="compare/fontations/bytemuck"'
 
 tools:
-	$(call with,cargo cc python3 rustfmt)
+	$(call with,cargo cc git python3 rustfmt)
 	$(if $(PYTHON),,echo "left out: a part of tools, which needs python3-z3")
 	python3 -B -m unittest discover -q tools/tests -p '*.py' 2>&1 | tee -a /dev/stderr |
 		grep "^Ran $$(cat tools/tests/*.py | grep -c '^    def test_') tests in" >/dev/null

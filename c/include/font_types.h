@@ -993,8 +993,8 @@ FTY_API_MUST_USE fty_status fty_delta_sum(
  * as there are scalars, and exactly the bytes that these take, fty_delta_set_length. The sum
  * is exact for the scalars given; what rounded these before is not in it.
  * Fails by FTY_TOO_MANY; by FTY_COUNT_MISMATCH if the set has fewer or more bytes, or the low
- * 15 bits of `word_count` exceed the number of scalars; and by FTY_OUT_OF_RANGE if bit 0x8000
- * is set.
+ * 15 bits of `word_count` exceed the number of scalars; and, only if bit 0x8000 is set, by
+ * FTY_OUT_OF_RANGE.
  */
 FTY_API_MUST_USE fty_status fty_delta_set_sum(
     const int32_t *scalars, size_t scalar_count, const uint8_t *set, size_t set_length,
@@ -1062,7 +1062,8 @@ typedef struct fty_pad {
     uint8_t fill;  /**< the fill byte, below 0x80; 0 means a space */
     uint8_t align; /**< a fty_align */
     uint8_t plus;  /**< if not 0, a `+` is written unless the text starts with `-` */
-    uint8_t zeros; /**< if not 0, pads with zeros after the sign, ignoring `fill` and `align` */
+    uint8_t zeros; /**< if not 0, pads with zeros after the sign, in place of `fill` and
+                        `align`, which still have to be valid */
 } fty_pad;
 
 /** Right-aligned in `WIDTH` bytes, filled with spaces. */

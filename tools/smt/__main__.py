@@ -3,8 +3,9 @@
 `python3 tools/smt [--checked] [--only PATTERN] [--jobs N] [--goals FOLDER] [--tree FOLDER]`
 
 `--checked` compiles with checks of overflow and debug assertions, and so shows that none of them
-fails. Without it, the build has neither, like a release build. `--goals` keeps each goal as a file
-of SMT-LIB, for another solver."""
+fails. Without it, the build has neither, like a release build. `--exhaustive` adds the rows of each
+number of fraction bits. `--mutants` tries wrong Rust. `--goals` keeps each goal of a rule that is
+not decided at once as a file of SMT-LIB, for another solver."""
 
 import argparse
 import ctypes

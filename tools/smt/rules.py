@@ -3,7 +3,7 @@ has to agree with this page and with `cases.py`.
 
 A number is a vector of W bits, which is read as a signed integer. A division by 2^k is a shift: `>>`
 rounds down. No sum or product of a rule reaches 2^(W-1), by the bounds of what it computes with
-(`Bounds`): so this is arithmetic of integers."""
+(`Bounds`): so this is arithmetic of integers. Sums of deltas, and indexes, are modulo 2^64 or 2^128."""
 
 import operator
 from collections.abc import Callable, Iterable, Iterator, Sequence

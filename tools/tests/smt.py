@@ -22,13 +22,13 @@ SLICES = r"&('a )?(mut )?(\[[^;\]]*\]|str)|Shortest|FromStr|Pad\b|Predefined|Sca
 GENERIC = r"\bFn|<('a, )?(const )?[A-EG-Z]\b|: pub trait"
 RULES = {
     "format, hash or copy": r"\b(fmt::|Display|Debug|Hash|Clone)\b",
-    "take, return or walk over texts or arrays of any length": SLICES,
-    "are laws about functions that have rows": r"^\w+/laws",
+    "are of texts or arrays of any length, `Pad` or `Predefined`": SLICES,
+    "are laws": r"^\w+/laws",
     "are not exported": r"NOT EXPORTED",
-    "call the caller's closure, or functions of the caller's type": GENERIC,
+    "are generic, or take a closure": GENERIC,
     "take no argument": r"fn \w+\(\)",
 }
-IN_A_ROW = "have a row, and so are proved"
+IN_A_ROW = "have a row"
 
 
 class Function:
