@@ -4,9 +4,9 @@ they call."""
 from typing import Any
 
 import z3
-from z3 import BitVecRef, BoolRef
+from z3 import BitVecRef
 
-from geometry import ENTRIES, entries, image, product
+from geometry import ENTRIES, entries, image, product, two
 from row import CASES, Rule, case
 from rules import S, U, Text, checked_tag, fits, fits_unsigned, up, validated, wrap
 
@@ -30,8 +30,8 @@ as_rust("Fixed::mul_div", "fty_fixed_mul_div(x, a, c)")
 
 
 def stores(call: str, parameters: str, type_: str, rule: Rule) -> None:
-    """An export that returns a status, and stores a number at its last argument: both, in this order
-    from the top. What is there before is `old`."""
+    """An export that returns a status, and stores a number at its last argument: the status is in the
+    upper half. What is there before is `old`."""
     width = int(type_[1:])
     case(call, f"{parameters}, old: {type_}", "u64",
          f"unsafe {{ let mut old = old; (({call}) as u64) << 32 | old as u{width} as u64 }}", rule)
@@ -80,13 +80,13 @@ stores("fty_tag_new(text.as_ptr(), text.len(), &mut old)", "text: bytes", "u32",
 
 matrix = lambda of: "FontMatrix { " + ", ".join(f"{it}: {of}{it}" for it in ENTRIES) + " }"
 both = "(it.{} as u32 as u64) << 32 | it.{} as u32 as u64"
-pair = lambda x, y: z3.Concat(wrap(32, x), wrap(32, y))
 for m, n in zip(ENTRIES[::2], ENTRIES[1::2]):
     case(f"fty_matrix_product(a, b), {m} and {n}", f"{entries('a')}, {entries('b')}", "u64",
          f"{{ let it = unsafe {{ fty_matrix_product({matrix('a')}, {matrix('b')}) }};"
          f" {both.format(m, n)} }}",
-         lambda p, *v, m=m, n=n: (lambda it: pair(it[m], it[n]))(product(p, *v)))
-point = lambda call: f"{{ let it = unsafe {{ {call}({matrix('a')}, FontPoint {{ x, y }}) }}; {both.format('x', 'y')} }}"
+         lambda p, *v, m=m, n=n: (lambda it: two(it[m], it[n]))(product(p, *v)))
+point = lambda call: "{{ let it = unsafe {{ {}({}, FontPoint {{ x, y }}) }}; {} }}".format(
+    call, matrix("a"), both.format("x", "y"))
 given = f"{entries('a')}, x: i32, y: i32"
 case("fty_matrix_image(m, p)", given, "u64", point("fty_matrix_image"),
      lambda p, *v: z3.Concat(*image(p, *v)))
