@@ -30,8 +30,8 @@ as_rust("Fixed::mul_div", "fty_fixed_mul_div(x, a, c)")
 
 
 def stores(call: str, parameters: str, type_: str, rule: Rule) -> None:
-    """An export that returns a status, and stores a number at its last argument: the status is in the
-    upper half. What is there before is `old`."""
+    """An export that returns a status, and stores a number at its last argument, where `old` is
+    before: the status is in the upper half of the result."""
     width = int(type_[1:])
     case(call, f"{parameters}, old: {type_}", "u64",
          f"unsafe {{ let mut old = old; (({call}) as u64) << 32 | old as u{width} as u64 }}", rule)
