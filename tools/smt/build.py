@@ -18,7 +18,9 @@ pub mod wrappers {
 extern crate std;
 use super::*;
 """
-COMMON = """--edition 2024 --crate-name kernel --cap-lints allow -C codegen-units=1
+# The name is the one that users compile, because a function may ask for it.
+CRATE = "font_types_proved"
+COMMON = f"""--edition 2024 --crate-name {CRATE} --cap-lints allow -C codegen-units=1
     -C panic=abort""".split()
 OPTIONS = """--crate-type cdylib -C opt-level=2 -C no-vectorize-loops -C no-vectorize-slp
     -C llvm-args=-unroll-runtime=false --emit llvm-ir,link""".split()
@@ -99,7 +101,7 @@ def compiled(tree: Path, room: Path, wrappers: str, options: list[str]) -> str:
     done = subprocess.run(command, capture_output=True, text=True)
     if done.returncode:
         raise Refusal(done.stderr)
-    return (room / "kernel.ll").read_text()
+    return (room / f"{CRATE}.ll").read_text()
 
 
 def build(tree: Path, room: Path, wrappers: str, checked: bool) -> Built:
@@ -108,4 +110,4 @@ def build(tree: Path, room: Path, wrappers: str, checked: bool) -> Built:
     checks = [
         f"-C{it}={'on' if checked else 'off'}" for it in ("overflow-checks", "debug-assertions")
     ]
-    return Built(compiled(tree, room, wrappers, [*OPTIONS, *checks]), room / "libkernel.so")
+    return Built(compiled(tree, room, wrappers, [*OPTIONS, *checks]), room / f"lib{CRATE}.so")

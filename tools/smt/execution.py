@@ -231,7 +231,7 @@ class Machine:
         if PANICS.search(name) and name not in self.module.functions:
             self.goals.panic(name[-60:], state)
         values = [self.argument(text, state) for text in texts]
-        if name in ("@bcmp", "@memcmp"):
+        if name in ("@bcmp", "@memcmp") and name not in self.module.functions:
             answer = self.promised(steps.compare_memory(self, name, values, state), returns, state)
             state.names[it.target] = self.described(answer, it, state)
             paths.append(state)

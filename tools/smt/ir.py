@@ -197,6 +197,8 @@ class Module:
             if line.startswith("define"):
                 function = self.function(line, lines)
                 self.functions[function.name] = function
+            elif line.startswith("module asm"):
+                raise Unsupported("functions in assembly, which may have any name")
             elif found := re.match(rf"({NAME}) = [^(]*\balias .*, ptr ({NAME})$", line):
                 aliases[found[1]] = found[2]
             elif found := re.match(rf'({NAME}) = [^("]*?\bconstant (.*), align (\d+)', line):

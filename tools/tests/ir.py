@@ -31,6 +31,8 @@ call i32 @llvm.abs.i32(i32 %x, i1 true) | call i32 @llvm.abs.i32(i32 %x, i1 fals
 call range(i32 0, 5) i32 @same(i32 %x) | call range(i32 7, 8) i32 @seven(i32 %x)
 call i32 @seven(i32 noundef poison) | call i32 @seven(i32 poison)
 call noundef i32 @small(i32 %x) | call noundef i32 @same(i32 %x)
+%p = alloca i32, align 4; store i32 0, ptr %p, align 4; call i32 @memcmp(ptr %p, ptr %p, i64 4) | \
+%p = alloca i32, align 4; store i32 0, ptr %p, align 4; call i32 @bcmp(ptr %p, ptr %p, i64 4)
 call i32 @expect_failed(i32 %x) | call i32 @quiet_expect_failed(i32 %x)
 %a = trunc nuw i32 %x to i8; zext i8 %a to i32 | %a = trunc i32 %x to i8; zext i8 %a to i32
 %a = trunc i32 %x to i8; zext nneg i8 %a to i32 | %a = trunc i32 %x to i8; sext i8 %a to i32
@@ -65,6 +67,10 @@ start:
 define i32 @quiet_expect_failed(i32 %x) {
 start:
   ret i32 %x
+}
+define i32 @memcmp(ptr %a, ptr %b, i64 %n) {
+start:
+  ret i32 poison
 }
 define i32 @seven(i32 %x) {
 start:
@@ -181,6 +187,10 @@ class Reader(unittest.TestCase):
         wrong, read = told(TERMS)
         self.assertEqual(wrong, [])
         self.assertGreater(read, 400)
+
+    def test_a_function_in_assembly_is_refused(self) -> None:
+        with self.assertRaisesRegex(AssertionError, "functions in assembly"):
+            told(CONSTANTS, 'module asm ".globl memcmp"')
 
     def test_a_variable_is_no_constant(self) -> None:
         self.assertEqual(told(CONSTANTS, VARIABLE), [])
