@@ -21,7 +21,7 @@ use super::*;
 # The name is the one that users compile, because a function may ask for it.
 CRATE = "font_types_proved"
 COMMON = f"""--edition 2024 --crate-name {CRATE} --cap-lints allow -C codegen-units=1
-    -C panic=abort""".split()
+    -C panic=unwind""".split()
 OPTIONS = """--crate-type cdylib -C opt-level=2 -C no-vectorize-loops -C no-vectorize-slp
     -C llvm-args=-unroll-runtime=false --emit llvm-ir,link""".split()
 
@@ -65,7 +65,7 @@ def wrapper(case: Case) -> str:
             parameters.append(f"{name}: {type_}")
             given.append(type_)
     numbers = ", ".join(f"numbers[{i}] as {type_}" for i, type_ in enumerate(given))
-    head = '#[unsafe(no_mangle)] pub extern "C" fn'
+    head = '#[unsafe(no_mangle)] pub extern "C-unwind" fn'
     return (
         f"{head} {case.symbol}({', '.join(parameters)}) -> {result} {{ {value} }}\n"
         f"{head} call_{case.symbol}(numbers: &[u128; 14], result: &mut u128)\n"

@@ -9,6 +9,8 @@ from values import Unsupported
 NAME = r'(?:[@%]"[^"]*"|[@%][\w.$-]+)'
 LABEL = re.compile(rf"label ({NAME})")
 INSTRUCTION = re.compile(rf"(?:({NAME}) = )?(?:(?:tail|notail|musttail) )?(\w+) ?(.*)$")
+# A call that goes on at a label, and at another if it panics, which no call may.
+INVOKE = re.compile(r"(.*?)\binvoke (.*) to (label \S+) unwind label [^\s,]+(.*)")
 METADATA = re.compile(r", !([\w.]+) (!\d+|!\{\})$")
 
 # What stands before a type or a value, and of which no goal is made: conventions of calls, what is
@@ -227,5 +229,10 @@ class Module:
                 if line.lstrip().startswith("switch "):
                     while "]" not in line:
                         line += " " + next(lines).strip()
+                if re.match(r"\s*(?:\S+ = )?invoke ", line):
+                    line = " ".join([line, next(lines).strip()])
+                if found := INVOKE.fullmatch(line.strip()):
+                    block.append(instruction(f"{found[1]}call {found[2]}{found[4]}"))
+                    line = f"br {found[3]}"
                 block.append(instruction(line.strip()))
         return blocks

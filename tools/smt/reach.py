@@ -13,7 +13,7 @@ OPTIONS = """--crate-type lib -C opt-level=0 -C no-prepopulate-passes -C debugin
 
 # A file, its line, and numbers of fraction bits of the types in the name.
 Called = tuple[str, int, list[int]]
-CALL = r"^  (?:\S+ = )?call [^@]*@(\w+)"
+CALL = r"^  (?:\S+ = )?(?:call|invoke) [^@]*@(\w+)"
 FILE = re.compile(r'^(!\d+) = !DIFile\(filename: "[^"]*/(?:src|c)/generated/([^"]*)"', re.M)
 FUNCTION = re.compile(r'[nN]ame: "(\w+)", scope: !\d+, file: (!\d+), line: (\d+)')
 

@@ -33,6 +33,8 @@ call i32 @seven(i32 noundef poison) | call i32 @seven(i32 poison)
 call noundef i32 @small(i32 %x) | call noundef i32 @same(i32 %x)
 %p = alloca i32, align 4; store i32 0, ptr %p, align 4; call i32 @memcmp(ptr %p, ptr %p, i64 4) | \
 %p = alloca i32, align 4; store i32 0, ptr %p, align 4; call i32 @bcmp(ptr %p, ptr %p, i64 4)
+%a = invoke i32 @expect_failed(i32 %x) to label %go unwind label %end; go:; add i32 %a, 0 | \
+%a = invoke i32 @seven(i32 %x) to label %go unwind label %end; go:; add i32 %a, 0
 call i32 @expect_failed(i32 %x) | call i32 @quiet_expect_failed(i32 %x)
 %a = trunc nuw i32 %x to i8; zext i8 %a to i32 | %a = trunc i32 %x to i8; zext i8 %a to i32
 %a = trunc i32 %x to i8; zext nneg i8 %a to i32 | %a = trunc i32 %x to i8; sext i8 %a to i32
@@ -84,7 +86,8 @@ start:
 
 def is_undefined(row):
     *before, last = row.split("; ")
-    lines = "\\n".join(f"  {it}" for it in [*before, f"%r = {last}", "ret i32 %r"])
+    lines = "\\n".join(it if it[-1] == ":" else f"  {it}".replace(" to label", "\\n to label")
+                      for it in [*before, f"%r = {last}", "ret i32 %r"])
     text = f"{HELPERS}define i32 @f(i32 %x, i32 %y) {{\\nstart:\\n{lines}\\n}}\\n"
     arithmetic, goals = Arithmetic(), []
     machine = Machine(Module(text), arithmetic, Goals(lambda why, it: goals.append(z3.And(it))))
