@@ -53,9 +53,10 @@ case("GlyphId16: TryFrom<GlyphId>", "x: u32", "?u16", f"{NARROW}.ok().map(GlyphI
 case("GlyphId24: TryFrom<GlyphId>", "x: u32", "?u32",
      f"GlyphId24::try_from({GLYPH}).ok().map(GlyphId24::to_u32)",
      lambda p, x: some(fits_unsigned(24, U(x)), x))
-case("TryFromGlyphIdError::value", "x: u32", "u32",
-     f"match {NARROW} {{ Ok(_) => 0, Err(e) => e.value() }}",
-     lambda p, x: wrap(32, z3.If(fits_unsigned(16, U(x)), N(0), U(x))))
+for w, narrow in ((16, NARROW), (24, f"GlyphId24::try_from({GLYPH})")):
+    case(f"TryFromGlyphIdError::value, {w} bits", "x: u32", "u32",
+         f"match {narrow} {{ Ok(_) => 0, Err(e) => e.value() }}",
+         lambda p, x, w=w: wrap(32, z3.If(fits_unsigned(w, U(x)), N(0), U(x))))
 ordered = lambda x, y: z3.If(U(x) < U(y), z3.BitVecVal(-1, 8), z3.If(
     U(x) == U(y), z3.BitVecVal(0, 8), z3.BitVecVal(1, 8)))
 IDS = "GlyphId16::new(x)", "GlyphId::new(y)"
