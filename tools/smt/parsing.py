@@ -136,6 +136,13 @@ class Parsing:
         self.goals = self.agreed = 0
         # Conditions by their identity, with what they are as those of integers.
         self.read: dict[int, tuple[BoolRef, list[BoolRef]]] = {}
+        self.simple: dict[int, tuple[BoolRef, BoolRef]] = {}
+        self.parts: dict[int, tuple[BoolRef, frozenset[int]]] = {}
+        # What is true of a byte, by the identity of its index.
+        self.facts: dict[int, tuple[ArithRef, BoolRef]] = {}
+        # By the last of them, conditions that exclude each other, and so do more. They are kept, so
+        # that no other condition has the identity of one.
+        self.excluded: dict[int, list[tuple[frozenset[int], list[BoolRef]]]] = {}
         # The units before the last turn of the loop over the places, and what is stored at a head.
         self.units: list[ArithRef] = []
         self.memory: dict[str, Any] = {}
@@ -207,7 +214,10 @@ class Parsing:
         """Keeps conditions of integers, with what is true of the bytes and names in them."""
         for it in list(subterms(found)):
             if z3.is_app(it) and it.decl().eq(text):
-                found.append(self.text.facts_at(it.arg(0)))
+                at = it.arg(0)
+                if at.get_id() not in self.facts:
+                    self.facts[at.get_id()] = at, self.text.facts_at(at)
+                found.append(self.facts[at.get_id()][1])
             elif z3.is_const(it) and it.decl().name() in self.integers.bounds:
                 low, high = self.integers.bounds[it.decl().name()]
                 found.append(z3.And(low <= it, it <= high))
@@ -221,7 +231,7 @@ class Parsing:
             if it.get_id() not in self.read:
                 read = []
                 with suppress(Unsupported):
-                    read.append(self.integers.truth(z3.simplify(it)))
+                    read.append(self.integers.truth(self.settled(it)))
                 self.keep(it, read)
             found += self.read[it.get_id()][1]
         return found
@@ -229,12 +239,28 @@ class Parsing:
     def refute(self, why: str, conditions: list[BoolRef]) -> None:
         """Shows that the conditions exclude each other."""
         self.goals += 1
-        if any(z3.is_false(z3.simplify(it)) for it in conditions):
+        if any(z3.is_false(self.settled(it)) for it in conditions):
+            return
+        every = {it.get_id() for it in conditions}
+        if any(it <= every for it, _ in self.excluded.get(conditions[-1].get_id(), ())):
             return
         answer = solved(self.premises(conditions))
         if answer != z3.unsat:
             self.search()
             raise Unknown(f"{why}: the solver says {answer}, and no text is known that shows it")
+        found = self.excluded.setdefault(conditions[-1].get_id(), [])
+        found.append((frozenset(every), list(conditions)))
+
+    def settled(self, it: BoolRef) -> BoolRef:
+        if it.get_id() not in self.simple:
+            self.simple[it.get_id()] = it, z3.simplify(it)
+        return self.simple[it.get_id()][1]
+
+    def inside(self, it: BoolRef) -> frozenset[int]:
+        """Returns the identities of the parts of a condition."""
+        if it.get_id() not in self.parts:
+            self.parts[it.get_id()] = it, frozenset(part.get_id() for part in subterms([it]))
+        return self.parts[it.get_id()][1]
 
     def of_integers(self, condition: BoolRef) -> BoolRef:
         self.keep(condition, [condition])
@@ -364,7 +390,7 @@ class Parsing:
             ("an error for a decimal", [IS_DECIMAL, bits == 1 << 64]),
             ("no error for another text", [z3.Not(IS_DECIMAL), bits != 1 << 64]),
         ]
-        here = {it.get_id() for it in subterms(self.premises(conditions))}
+        here = set[int]().union(*map(self.inside, self.premises(conditions)))
         for units in self.units:
             if units.get_id() in here:
                 last = h == ((text(e + 1) - ord("0")) * 2**self.text.places + units) / 10

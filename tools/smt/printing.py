@@ -134,7 +134,9 @@ class Printed(Goals):
         self.proof = proof
 
     def possible(self, conditions: list[BoolRef]) -> bool:
-        return bool(self.proof.solved(list(map(self.proof.premise, conditions))) != z3.unsat)
+        """Returns whether the last condition may be met, as far as those that are of the same say."""
+        *known, last = map(self.proof.premise, conditions)
+        return bool(self.proof.solved(self.proof.related(known, last)) != z3.unsat)
 
 
 class Printing:
@@ -253,9 +255,18 @@ class Printing:
             self.answers[key] = solved(self.closed(conditions)), conditions
         return self.answers[key][0]
 
+    def related(self, known: list[BoolRef], last: BoolRef) -> list[BoolRef]:
+        """Returns a condition with those that are of nothing else than it is."""
+        group = self.group(last)
+        return [*(it for it in known if self.group(it) <= group), last]
+
     def refute(self, why: str, conditions: list[BoolRef]) -> None:
-        """Shows that the conditions exclude each other."""
-        self.exclude(why, list(map(self.premise, conditions[:-1])), conditions[-1])
+        """Shows that the conditions exclude each other. What is nowhere possible, as a panic, is
+        excluded by the last condition of the path to it."""
+        *known, last = [*map(self.premise, conditions[:-1]), conditions[-1]]
+        while known and z3.is_true(last):
+            *known, last = known
+        self.exclude(why, known, last)
 
     def exclude(self, why: str, known: list[BoolRef], wrong: BoolRef) -> None:
         """Shows that a condition does not hold if others do. Those that are of what it is of are
@@ -264,9 +275,7 @@ class Printing:
         if z3.is_false(settle(wrong)):
             return
         goal = self.integer(wrong)
-        group = self.group(goal)
-        some = [*(it for it in known if self.group(it) <= group), goal]
-        if self.solved(some) == z3.unsat:
+        if self.solved(self.related(known, goal)) == z3.unsat:
             return
         facts = map(self.premise, self.arithmetic.facts)
         if (answer := self.solved([*facts, *known, goal])) != z3.unsat:

@@ -38,10 +38,14 @@ class State(NamedTuple):
 
 def solved(conditions: Iterable[BoolRef]) -> Any:
     """Returns what the solver says of conditions."""
-    solver = z3.Solver()
-    solver.set("rlimit", LIMIT)
-    solver.add(*conditions)
-    return solver.check()
+    # Most are small, for which the solver without tactics is faster.
+    every = list(conditions)
+    for solver, limit in ((z3.SimpleSolver(), QUICK), (z3.Solver(), LIMIT)):
+        solver.set("rlimit", limit)
+        solver.add(*every)
+        if (answer := solver.check()) != z3.unknown:
+            return answer
+    return answer
 
 
 class Goals:
