@@ -329,9 +329,10 @@ trait Taken: Scalar {
     }
 }
 
+/// As in read-fonts, whose calls by value have to mean this method.
 trait Resolved: OffsetValue {
-    fn resolve(self, table: &[u8]) -> usize {
-        OffsetValue::resolve(self, table).map_or(0, <[u8]>::len)
+    fn resolve(&self, table: &[u8]) -> usize {
+        self.follow(table).map_or(0, <[u8]>::len)
     }
 }
 
@@ -350,8 +351,7 @@ impl<T: Scalar + Copy> Emitted for T {}
 fn methods_of_two_traits() {
     let mut bytes = &[0, 3, 9][..];
     assert_eq!(<Offset16 as Taken>::take_from(&mut bytes), Offset16::new(3));
-    assert_eq!(Resolved::resolve(Offset16::new(3), &[0; 10]), 7);
-    assert_eq!(OffsetValue::resolve(Offset16::new(0), bytes), None);
+    assert_eq!((Offset16::new(3).resolve(&[0; 10]), Offset16::new(0).resolve(bytes)), (7, 0));
     let mut bytes = [9; 3];
     assert_eq!((0x0102_u16.write_at(&mut bytes, 2), bytes), (None, [9; 3]));
     assert_eq!((Emitted::write_at(&0x0102_u16, &mut bytes, 2), bytes), (1, [9, 9, 1]));

@@ -18,8 +18,6 @@ EDITS = [
 \g<0>""",
         1,
     ),
-    # read-fonts has a `resolve` of its own.
-    (r"^    /// Returns the bytes from where the offset points.*?fn resolve\(.*?^    \}\n", "", 1),
     (r"^/// The raw bytes of an array: .*?(?=^/// What a field of a)", "", 1),
     (r"pub trait Scalar: FixedSize", "pub trait Scalar: Sized", 1),
     (r"\{BeByteArray, ByteChunks, Scalar\}", "{BeByteArray, ByteChunks, FixedSize, Scalar}", 1),

@@ -73,7 +73,7 @@ impl<'a> Font<'a> {
         let cmap = self.table(b"cmap")?;
         let encodings = 0..u16::read_at(cmap, 2)?;
         let offset = |n| Offset32::read_at(cmap, 4 + 8 * usize::from(n) + 4);
-        let mut subtables = encodings.filter_map(|n| offset(n)?.resolve(cmap));
+        let mut subtables = encodings.filter_map(|n| offset(n)?.follow(cmap));
         subtables.find_map(|subtable| match u16::read_at(subtable, 0)? {
             4 => of_format_4(subtable, u16::try_from(u32::from(character)).ok()?),
             12 => of_format_12(subtable, character.into()),

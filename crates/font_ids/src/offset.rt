@@ -316,11 +316,11 @@ pub trait OffsetValue: Copy {
     /// ```
     /// use font_types::{Offset16, OffsetValue};
     /// let table = [0, 4, 9, 9, 1, 2];
-    /// assert_eq!(Offset16::new(4).resolve(&table), Some(&[1, 2][..]));
-    /// assert_eq!(Offset16::new(0).resolve(&table), None);
-    /// assert_eq!(Offset16::new(7).resolve(&table), None);
+    /// assert_eq!(Offset16::new(4).follow(&table), Some(&[1, 2][..]));
+    /// assert_eq!(Offset16::new(0).follow(&table), None);
+    /// assert_eq!(Offset16::new(7).follow(&table), None);
     /// ```
-    fn resolve(self, table: &[u8]) -> Option<&[u8]>
+    fn follow(self, table: &[u8]) -> Option<&[u8]>
         ensures variant { IsSome result
             ↔ ((0 < number_of self) × (number_of self ≤ length table.now)) }
         ensures bytes { IfSome result (λ bytes. bytes.now ≡ drop (number_of self) table.now) }

@@ -490,9 +490,9 @@ pub trait OffsetValue: Copy {
     /// ```
     /// use font_types_proved::{Offset16, OffsetValue};
     /// let table = [0, 4, 9, 9, 1, 2];
-    /// assert_eq!(Offset16::new(4).resolve(&table), Some(&[1, 2][..]));
-    /// assert_eq!(Offset16::new(0).resolve(&table), None);
-    /// assert_eq!(Offset16::new(7).resolve(&table), None);
+    /// assert_eq!(Offset16::new(4).follow(&table), Some(&[1, 2][..]));
+    /// assert_eq!(Offset16::new(0).follow(&table), None);
+    /// assert_eq!(Offset16::new(7).follow(&table), None);
     /// ```
     ///
     /// <details><summary>Contract</summary>
@@ -506,7 +506,7 @@ pub trait OffsetValue: Copy {
     /// </details>
     #[must_use]
     #[inline]
-    fn resolve(self, table: &[u8]) -> Option<&[u8]> {
+    fn follow(self, table: &[u8]) -> Option<&[u8]> {
         match self.to_usize() {
             0 => None,
             start => table.get(start..),
