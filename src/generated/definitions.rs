@@ -205,9 +205,10 @@ pub mod font_decimal {
     ///
     /// In the order of `crates/font_decimal/specs/Reading.antt`: [`Rounds`](mod@Reading::Rounds), [`Reads`](mod@Reading::Reads), [`IsOutOfRange`](mod@Reading::IsOutOfRange), [`Parses`](mod@Reading::Parses), [`IsAtMost`](mod@Reading::IsAtMost).
     pub mod Reading {
-        use crate::definitions::font_decimal::Grammar::Decimal;
-        use crate::definitions::font_decimal::Grammar::IsNoDecimal;
-        use crate::definitions::font_decimal::Near::Near;
+        use crate::definitions::font_decimal::{
+            Grammar::{Decimal, IsNoDecimal},
+            Near::Near,
+        };
         /// the text is a decimal that rounds to b / 2^f, half away from zero
         ///
         /// ```text
@@ -273,11 +274,11 @@ pub mod font_decimal {
     ///
     /// In the order of `crates/font_decimal/specs/Shortest.antt`: [`IsShortest`](mod@Shortest::IsShortest), [`nearest_numeral`](mod@Shortest::nearest_numeral), [`reads_back`](mod@Shortest::reads_back), [`places_from`](mod@Shortest::places_from), [`fewest_places`](mod@Shortest::fewest_places), [`last_digits`](mod@Shortest::last_digits), [`decimal_text`](mod@Shortest::decimal_text), [`shortest_text`](mod@Shortest::shortest_text).
     pub mod Shortest {
-        use crate::definitions::font_decimal::Grammar::Plain;
-        use crate::definitions::font_decimal::Grammar::fraction_text;
-        use crate::definitions::font_decimal::Near::Near;
-        use crate::definitions::font_decimal::Near::near_magnitude;
-        use crate::definitions::font_decimal::Reading::Rounds;
+        use crate::definitions::font_decimal::{
+            Grammar::{Plain, fraction_text},
+            Near::{Near, near_magnitude},
+            Reading::Rounds,
+        };
         /// the text is plain and parses back to b; no decimal with as many places is nearer to b / 2^f; and no decimal with
         /// fewer places, however it is written, rounds to b
         ///
@@ -380,12 +381,9 @@ pub mod font_base {
     ///
     /// In the order of `crates/font_base/specs/Array.antt`: [`array_bytes`](mod@Array::array_bytes), [`array_len`](mod@Array::array_len), [`element_bytes`](mod@Array::element_bytes), [`array_elements`](mod@Array::array_elements), [`elements_left`](mod@Array::elements_left), [`RisesAlong`](mod@Array::RisesAlong), [`SplitsArray`](mod@Array::SplitsArray), [`IsSearched`](mod@Array::IsSearched), [`IsPartitionPoint`](mod@Array::IsPartitionPoint).
     pub mod Array {
-        use crate::definitions::font_base::Elements::Rises;
-        use crate::definitions::font_base::Elements::Splits;
-        use crate::definitions::font_base::Elements::StoresOne;
-        use crate::definitions::font_base::Elements::element;
-        use crate::definitions::font_base::Elements::elements;
-        use crate::definitions::font_base::Elements::side;
+        use crate::definitions::font_base::Elements::{
+            Rises, Splits, StoresOne, element, elements, side,
+        };
         /// the bytes of an array
         ///
         /// ```text
@@ -617,9 +615,10 @@ pub mod font_base {
     ///
     /// In the order of `crates/font_base/specs/Int24.antt`: [`int24_number`](mod@Int24::int24_number), [`INT24_MIN`](mod@Int24::INT24_MIN), [`INT24_MAX`](mod@Int24::INT24_MAX), [`int24_of`](mod@Int24::int24_of), [`int24_of_bytes`](mod@Int24::int24_of_bytes), [`bytes_of_int24`](mod@Int24::bytes_of_int24).
     pub mod Int24 {
-        use crate::definitions::font_base::Bytes::bytes_of;
-        use crate::definitions::font_base::Bytes::signed_numeral;
-        use crate::definitions::font_base::Wrap::wrap;
+        use crate::definitions::font_base::{
+            Bytes::{bytes_of, signed_numeral},
+            Wrap::wrap,
+        };
         /// the value of an `Int24`
         ///
         /// ```text
@@ -733,8 +732,7 @@ pub mod font_base {
     ///
     /// In the order of `crates/font_base/specs/Uint24.antt`: [`uint24_number`](mod@Uint24::uint24_number), [`UINT24_MAX`](mod@Uint24::UINT24_MAX), [`uint24_of`](mod@Uint24::uint24_of), [`uint24_of_bytes`](mod@Uint24::uint24_of_bytes), [`bytes_of_uint24`](mod@Uint24::bytes_of_uint24).
     pub mod Uint24 {
-        use crate::definitions::font_base::Bytes::bytes_of;
-        use crate::definitions::font_base::Bytes::numeral;
+        use crate::definitions::font_base::Bytes::{bytes_of, numeral};
         /// the value of a `Uint24`
         ///
         /// ```text
@@ -1047,9 +1045,7 @@ pub mod font_fixed {
     ///
     /// In the order of `crates/font_fixed/specs/NumberLaws.antt`: [`OnFour`](mod@NumberLaws::OnFour), [`OnThree`](mod@NumberLaws::OnThree), [`ProductLaws`](mod@NumberLaws::ProductLaws), [`ProductInOneStep`](mod@NumberLaws::ProductInOneStep), [`QuotientLaws`](mod@NumberLaws::QuotientLaws), [`QuotientInOneStep`](mod@NumberLaws::QuotientInOneStep).
     pub mod NumberLaws {
-        use crate::definitions::font_fixed::Operations::IsMulDiv;
-        use crate::definitions::font_fixed::Operations::IsProduct;
-        use crate::definitions::font_fixed::Operations::IsQuotient;
+        use crate::definitions::font_fixed::Operations::{IsMulDiv, IsProduct, IsQuotient};
         /// the list has four elements with this property
         ///
         /// ```text
@@ -1120,17 +1116,11 @@ pub mod font_fixed {
     ///
     /// In the order of `crates/font_fixed/specs/Operations.antt`: [`WrapsTo`](mod@Operations::WrapsTo), [`wrapped_near`](mod@Operations::wrapped_near), [`IsWrappedNear`](mod@Operations::IsWrappedNear), [`narrowed`](mod@Operations::narrowed), [`IsNarrowed`](mod@Operations::IsNarrowed), [`nearest_whole`](mod@Operations::nearest_whole), [`IsNearestWhole`](mod@Operations::IsNearestWhole), [`fract_of`](mod@Operations::fract_of), [`floor_of`](mod@Operations::floor_of), [`IsFloor`](mod@Operations::IsFloor), [`ceiling_of`](mod@Operations::ceiling_of), [`IsCeiling`](mod@Operations::IsCeiling), [`IsWrappedCeiling`](mod@Operations::IsWrappedCeiling), [`IsFract`](mod@Operations::IsFract), [`least`](mod@Operations::least), [`greatest`](mod@Operations::greatest), [`ReadsBits`](mod@Operations::ReadsBits), [`IsTooFar`](mod@Operations::IsTooFar), [`ParsesBits`](mod@Operations::ParsesBits), [`clamp`](mod@Operations::clamp), [`differ_in_sign`](mod@Operations::differ_in_sign), [`IsProduct`](mod@Operations::IsProduct), [`IsMulDiv`](mod@Operations::IsMulDiv), [`IsQuotient`](mod@Operations::IsQuotient), [`rounded_mul_div`](mod@Operations::rounded_mul_div).
     pub mod Operations {
-        use crate::definitions::font_base::Wrap::FitsBits;
-        use crate::definitions::font_base::Wrap::half_range;
-        use crate::definitions::font_base::Wrap::wrap;
-        use crate::definitions::font_decimal::Near::Near;
-        use crate::definitions::font_decimal::Near::Up;
-        use crate::definitions::font_decimal::Near::near;
-        use crate::definitions::font_decimal::Near::signed;
-        use crate::definitions::font_decimal::Near::up;
-        use crate::definitions::font_decimal::Reading::IsOutOfRange;
-        use crate::definitions::font_decimal::Reading::Parses;
-        use crate::definitions::font_decimal::Reading::Reads;
+        use crate::definitions::font_base::Wrap::{FitsBits, half_range, wrap};
+        use crate::definitions::font_decimal::{
+            Near::{Near, Up, near, signed, up},
+            Reading::{IsOutOfRange, Parses, Reads},
+        };
         /// r is z wrapped to w bits: z itself, if it fits in them
         ///
         /// ```text
@@ -1384,11 +1374,8 @@ pub mod font_fixed {
     ///
     /// In the order of `crates/font_fixed/specs/Reading.antt`: [`ParsesFixedPoint`](mod@Reading::ParsesFixedPoint).
     pub mod Reading {
-        use crate::definitions::font_decimal::Grammar::IsNoDecimal;
-        use crate::definitions::font_decimal::Shortest::shortest_text;
-        use crate::definitions::font_fixed::Operations::IsTooFar;
-        use crate::definitions::font_fixed::Operations::ParsesBits;
-        use crate::definitions::font_fixed::Operations::ReadsBits;
+        use crate::definitions::font_decimal::{Grammar::IsNoDecimal, Shortest::shortest_text};
+        use crate::definitions::font_fixed::Operations::{IsTooFar, ParsesBits, ReadsBits};
         /// The result of parsing: the nearest value of the type with width w and f fraction bits; `Syntax` if the text is not a
         /// decimal; `OutOfRange` if its nearest value does not fit in the width. The printed text of a value parses as that
         /// value.
@@ -1587,8 +1574,7 @@ pub mod font_tags {
     ///
     /// In the order of `crates/font_tags/specs/Version.antt`: [`version_bits`](mod@Version::version_bits), [`version_of`](mod@Version::version_of), [`version_major`](mod@Version::version_major), [`version_minor`](mod@Version::version_minor), [`packed_version`](mod@Version::packed_version), [`version_text`](mod@Version::version_text), [`hex_text`](mod@Version::hex_text), [`major_minor_bytes`](mod@Version::major_minor_bytes), [`major_minor_of`](mod@Version::major_minor_of), [`IsCompatible`](mod@Version::IsCompatible).
     pub mod Version {
-        use crate::definitions::font_base::Bytes::bytes_of;
-        use crate::definitions::font_base::Bytes::numeral;
+        use crate::definitions::font_base::Bytes::{bytes_of, numeral};
         /// the 32 bits of a version (OpenType, data types: Version16Dot16, "Packed 32-bit value with major and minor version
         /// numbers"), and the version with these bits
         ///
@@ -2079,16 +2065,13 @@ pub mod font_geom {
     ///
     /// In the order of `crates/font_geom/specs/FixedMatrix.antt`: [`matrix_bits`](mod@FixedMatrix::matrix_bits), [`point_bits`](mod@FixedMatrix::point_bits), [`bits_of_point`](mod@FixedMatrix::bits_of_point), [`rounded_product`](mod@FixedMatrix::rounded_product), [`rounded_image`](mod@FixedMatrix::rounded_image), [`rounded_matrix_product`](mod@FixedMatrix::rounded_matrix_product), [`wrapped_product`](mod@FixedMatrix::wrapped_product), [`wrapped_sum`](mod@FixedMatrix::wrapped_sum), [`fixed_product`](mod@FixedMatrix::fixed_product), [`ProductsAssociate`](mod@FixedMatrix::ProductsAssociate), [`FitsPoint`](mod@FixedMatrix::FitsPoint), [`FitsComposed`](mod@FixedMatrix::FitsComposed), [`FitsInTurn`](mod@FixedMatrix::FitsInTurn), [`exact_row`](mod@FixedMatrix::exact_row), [`IsCloseImage`](mod@FixedMatrix::IsCloseImage), [`exact_coordinate`](mod@FixedMatrix::exact_coordinate), [`exact_image`](mod@FixedMatrix::exact_image), [`IsWithin`](mod@FixedMatrix::IsWithin), [`IsCloseComposed`](mod@FixedMatrix::IsCloseComposed), [`IsCloseInTurn`](mod@FixedMatrix::IsCloseInTurn).
     pub mod FixedMatrix {
-        use crate::definitions::font_base::Wrap::FitsBits;
-        use crate::definitions::font_base::Wrap::wrap;
+        use crate::definitions::font_base::Wrap::{FitsBits, wrap};
         use crate::definitions::font_decimal::Near::near;
-        use crate::definitions::font_fixed::Fixed::Fixed;
-        use crate::definitions::font_fixed::Fixed::fixed_bits;
-        use crate::definitions::font_fixed::Fixed::fixed_of;
-        use crate::definitions::font_fixed::FixedI32::bits_of;
-        use crate::definitions::font_geom::Matrix::FitsEach;
-        use crate::definitions::font_geom::Matrix::image_of;
-        use crate::definitions::font_geom::Matrix::matrix_product;
+        use crate::definitions::font_fixed::{
+            Fixed::{Fixed, fixed_bits, fixed_of},
+            FixedI32::bits_of,
+        };
+        use crate::definitions::font_geom::Matrix::{FitsEach, image_of, matrix_product};
         /// the raw value of each element, and of each coordinate
         ///
         /// ```text
@@ -2512,10 +2495,10 @@ pub mod font_types {
     pub mod Delta {
         use crate::definitions::font_base::Wrap::half_range;
         use crate::definitions::font_decimal::Near::signed;
-        use crate::definitions::font_fixed::Fixed::Fixed;
-        use crate::definitions::font_fixed::Fixed::fixed_bits;
-        use crate::definitions::font_fixed::Operations::differ_in_sign;
-        use crate::definitions::font_fixed::Operations::rounded_mul_div;
+        use crate::definitions::font_fixed::{
+            Fixed::{Fixed, fixed_bits},
+            Operations::{differ_in_sign, rounded_mul_div},
+        };
         /// the exact sum of an integer for each element of a list
         ///
         /// ```text

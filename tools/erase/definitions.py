@@ -144,11 +144,16 @@ def pages(definitions: Definitions, heads: dict[str, str], wanted: Iterable[str]
 
 
 def imports(names: Iterable[tuple[str, str]]) -> str:
-    """Returns the imports of definitions, which are names and their paths."""
+    """Returns the imports of definitions, which are names and their paths: one of each crate."""
+    crates: dict[str, dict[str, list[str]]] = {}
+    for name, path in sorted(names, key=lambda it: (it[1], it[0])):
+        crate, file, item = path.split("::")
+        own = item if item == name else f"{item} as {name}"
+        crates.setdefault(crate, {}).setdefault(file, []).append(own)
     uses = ""
-    for name, path in sorted(names):
-        own = "" if path.endswith(f"::{name}") else f" as {name}"
-        uses += f"use crate::definitions::{path}{own};\n"
+    for crate, files in crates.items():
+        items = ", ".join(f"{file}::{{{', '.join(own)}}}" for file, own in files.items())
+        uses += f"use crate::definitions::{crate}::{{{items}}};\n"
     return uses
 
 

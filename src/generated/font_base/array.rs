@@ -3,21 +3,13 @@
 //! Borrowed arrays of big-endian scalars.
 
 #[cfg(doc)]
-use crate::definitions::font_base::Array::IsPartitionPoint;
-#[cfg(doc)]
-use crate::definitions::font_base::Array::IsSearched;
-#[cfg(doc)]
-use crate::definitions::font_base::Array::array_bytes;
-#[cfg(doc)]
-use crate::definitions::font_base::Array::array_elements;
-#[cfg(doc)]
-use crate::definitions::font_base::Array::array_len;
-#[cfg(doc)]
-use crate::definitions::font_base::Array::element_bytes;
-#[cfg(doc)]
-use crate::definitions::font_base::Array::elements_left;
-#[cfg(doc)]
-use crate::definitions::font_base::Elements::AreRaw;
+use crate::definitions::font_base::{
+    Array::{
+        IsPartitionPoint, IsSearched, array_bytes, array_elements, array_len, element_bytes,
+        elements_left,
+    },
+    Elements::AreRaw,
+};
 
 use crate::font_base::raw::{BeByteArray, ByteChunks, Scalar};
 use core::cmp::Ordering;

@@ -3,19 +3,10 @@
 //! 24-bit signed integers.
 
 #[cfg(doc)]
-use crate::definitions::font_base::Bytes::bytes_of;
-#[cfg(doc)]
-use crate::definitions::font_base::Bytes::signed_numeral;
-#[cfg(doc)]
-use crate::definitions::font_base::Int24::INT24_MAX;
-#[cfg(doc)]
-use crate::definitions::font_base::Int24::INT24_MIN;
-#[cfg(doc)]
-use crate::definitions::font_base::Int24::bytes_of_int24;
-#[cfg(doc)]
-use crate::definitions::font_base::Int24::int24_number;
-#[cfg(doc)]
-use crate::definitions::font_base::Int24::int24_of_bytes;
+use crate::definitions::font_base::{
+    Bytes::{bytes_of, signed_numeral},
+    Int24::{INT24_MAX, INT24_MIN, bytes_of_int24, int24_number, int24_of_bytes},
+};
 
 use crate::font_base::raw::{FixedSize, IdentityEq, Scalar};
 use core::fmt;

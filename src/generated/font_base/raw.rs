@@ -3,21 +3,12 @@
 //! Scalars and their big-endian bytes.
 
 #[cfg(doc)]
-use crate::definitions::font_base::Bytes::are_bytes;
-#[cfg(doc)]
-use crate::definitions::font_base::Bytes::bytes_of;
-#[cfg(doc)]
-use crate::definitions::font_base::Bytes::numeral;
-#[cfg(doc)]
-use crate::definitions::font_base::Bytes::signed_numeral;
-#[cfg(doc)]
-use crate::definitions::font_base::Elements::AreRaw;
-#[cfg(doc)]
-use crate::definitions::font_base::Scalar::IsValueOf;
-#[cfg(doc)]
-use crate::definitions::font_base::Scalar::ScalarLaws;
-#[cfg(doc)]
-use crate::definitions::font_base::Wrap::fits_bits;
+use crate::definitions::font_base::{
+    Bytes::{are_bytes, bytes_of, numeral, signed_numeral},
+    Elements::AreRaw,
+    Scalar::{IsValueOf, ScalarLaws},
+    Wrap::fits_bits,
+};
 
 /// A fixed-size big-endian byte array.
 ///

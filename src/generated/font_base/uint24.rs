@@ -3,17 +3,10 @@
 //! 24-bit unsigned integers.
 
 #[cfg(doc)]
-use crate::definitions::font_base::Bytes::bytes_of;
-#[cfg(doc)]
-use crate::definitions::font_base::Bytes::numeral;
-#[cfg(doc)]
-use crate::definitions::font_base::Uint24::UINT24_MAX;
-#[cfg(doc)]
-use crate::definitions::font_base::Uint24::bytes_of_uint24;
-#[cfg(doc)]
-use crate::definitions::font_base::Uint24::uint24_number;
-#[cfg(doc)]
-use crate::definitions::font_base::Uint24::uint24_of_bytes;
+use crate::definitions::font_base::{
+    Bytes::{bytes_of, numeral},
+    Uint24::{UINT24_MAX, bytes_of_uint24, uint24_number, uint24_of_bytes},
+};
 
 use crate::font_base::raw::{FixedSize, IdentityEq, Scalar};
 use core::fmt;

@@ -3,17 +3,12 @@
 //! Laws of parsing and printing, as contracts of functions.
 
 #[cfg(doc)]
-use crate::definitions::font_decimal::Grammar::Tidy;
-#[cfg(doc)]
-use crate::definitions::font_decimal::Reading::IsAtMost;
-#[cfg(doc)]
-use crate::definitions::font_decimal::Reading::Parses;
-#[cfg(doc)]
-use crate::definitions::font_decimal::Reading::Reads;
-#[cfg(doc)]
-use crate::definitions::font_decimal::Shortest::shortest_text;
-#[cfg(doc)]
-use crate::definitions::font_decimal::Shown::shown;
+use crate::definitions::font_decimal::{
+    Grammar::Tidy,
+    Reading::{IsAtMost, Parses, Reads},
+    Shortest::shortest_text,
+    Shown::shown,
+};
 
 use crate::font_decimal::{DecimalFault, Shortest, read_decimal};
 

@@ -3,13 +3,10 @@
 //! Parsing a decimal as the nearest fixed-point number.
 
 #[cfg(doc)]
-use crate::definitions::font_decimal::Grammar::IsNoDecimal;
-#[cfg(doc)]
-use crate::definitions::font_decimal::Reading::IsOutOfRange;
-#[cfg(doc)]
-use crate::definitions::font_decimal::Reading::Parses;
-#[cfg(doc)]
-use crate::definitions::font_decimal::Reading::Reads;
+use crate::definitions::font_decimal::{
+    Grammar::IsNoDecimal,
+    Reading::{IsOutOfRange, Parses, Reads},
+};
 
 use crate::font_decimal::grammar::{after_point, are_digits, split_sign};
 

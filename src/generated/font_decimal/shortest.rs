@@ -3,11 +3,10 @@
 //! The shortest decimal of a fixed-point number.
 
 #[cfg(doc)]
-use crate::definitions::font_decimal::Shortest::IsShortest;
-#[cfg(doc)]
-use crate::definitions::font_decimal::Shortest::shortest_text;
-#[cfg(doc)]
-use crate::definitions::font_decimal::Shown::shown;
+use crate::definitions::font_decimal::{
+    Shortest::{IsShortest, shortest_text},
+    Shown::shown,
+};
 
 use core::fmt;
 

@@ -3,49 +3,26 @@
 //! 16-bit fixed-point numbers.
 
 #[cfg(doc)]
-use crate::definitions::font_base::Bytes::bytes_of;
+use crate::definitions::font_base::{
+    Bytes::{bytes_of, signed_numeral},
+    Wrap::{FitsBits, fits_bits},
+};
 #[cfg(doc)]
-use crate::definitions::font_base::Bytes::signed_numeral;
+use crate::definitions::font_decimal::{
+    Padding::{FillsFront, padded_text},
+    Shortest::IsShortest,
+    Shown::shown,
+};
 #[cfg(doc)]
-use crate::definitions::font_base::Wrap::FitsBits;
-#[cfg(doc)]
-use crate::definitions::font_base::Wrap::fits_bits;
-#[cfg(doc)]
-use crate::definitions::font_decimal::Padding::FillsFront;
-#[cfg(doc)]
-use crate::definitions::font_decimal::Padding::padded_text;
-#[cfg(doc)]
-use crate::definitions::font_decimal::Shortest::IsShortest;
-#[cfg(doc)]
-use crate::definitions::font_decimal::Shown::shown;
-#[cfg(doc)]
-use crate::definitions::font_fixed::FixedI16::bits_of;
-#[cfg(doc)]
-use crate::definitions::font_fixed::FixedI16::of_bits;
-#[cfg(doc)]
-use crate::definitions::font_fixed::FixedI16::text_of;
-#[cfg(doc)]
-use crate::definitions::font_fixed::Longest::longest;
-#[cfg(doc)]
-use crate::definitions::font_fixed::Operations::IsCeiling;
-#[cfg(doc)]
-use crate::definitions::font_fixed::Operations::IsFloor;
-#[cfg(doc)]
-use crate::definitions::font_fixed::Operations::IsFract;
-#[cfg(doc)]
-use crate::definitions::font_fixed::Operations::IsNearestWhole;
-#[cfg(doc)]
-use crate::definitions::font_fixed::Operations::IsWrappedCeiling;
-#[cfg(doc)]
-use crate::definitions::font_fixed::Operations::WrapsTo;
-#[cfg(doc)]
-use crate::definitions::font_fixed::Operations::ceiling_of;
-#[cfg(doc)]
-use crate::definitions::font_fixed::Operations::clamp;
-#[cfg(doc)]
-use crate::definitions::font_fixed::Reading::ParsesFixedPoint;
-#[cfg(doc)]
-use crate::definitions::font_fixed::Rounding::rounded;
+use crate::definitions::font_fixed::{
+    FixedI16::{bits_of, of_bits, text_of},
+    Longest::longest,
+    Operations::{
+        IsCeiling, IsFloor, IsFract, IsNearestWhole, IsWrappedCeiling, WrapsTo, ceiling_of, clamp,
+    },
+    Reading::ParsesFixedPoint,
+    Rounding::rounded,
+};
 
 use crate::font_decimal::{DecimalFault, Pad, Shortest};
 use crate::font_fixed::formats::Format;

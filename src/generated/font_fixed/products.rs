@@ -5,17 +5,11 @@
 #[cfg(doc)]
 use crate::definitions::font_base::Wrap::wrap;
 #[cfg(doc)]
-use crate::definitions::font_decimal::Near::near;
+use crate::definitions::font_decimal::Near::{near, signed};
 #[cfg(doc)]
-use crate::definitions::font_decimal::Near::signed;
-#[cfg(doc)]
-use crate::definitions::font_fixed::Operations::IsMulDiv;
-#[cfg(doc)]
-use crate::definitions::font_fixed::Operations::IsProduct;
-#[cfg(doc)]
-use crate::definitions::font_fixed::Operations::differ_in_sign;
-#[cfg(doc)]
-use crate::definitions::font_fixed::Operations::rounded_mul_div;
+use crate::definitions::font_fixed::Operations::{
+    IsMulDiv, IsProduct, differ_in_sign, rounded_mul_div,
+};
 
 /// Multiplies two numbers with `f` fraction bits, rounding half away from zero and wrapping on
 /// overflow.

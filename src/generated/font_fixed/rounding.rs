@@ -7,9 +7,7 @@ use crate::definitions::font_base::Wrap::FitsBits;
 #[cfg(doc)]
 use crate::definitions::font_decimal::Near::up;
 #[cfg(doc)]
-use crate::definitions::font_fixed::Operations::IsFloor;
-#[cfg(doc)]
-use crate::definitions::font_fixed::Rounding::rounded;
+use crate::definitions::font_fixed::{Operations::IsFloor, Rounding::rounded};
 
 /// Returns the raw value of the largest integer less than or equal to a 16-bit value with `f`
 /// fraction bits.

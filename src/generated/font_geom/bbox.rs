@@ -3,17 +3,9 @@
 //! Axis-aligned bounding boxes.
 
 #[cfg(doc)]
-use crate::definitions::font_geom::BoundingBox::CanScale;
-#[cfg(doc)]
-use crate::definitions::font_geom::BoundingBox::Compares;
-#[cfg(doc)]
-use crate::definitions::font_geom::BoundingBox::HasSamePairs;
-#[cfg(doc)]
-use crate::definitions::font_geom::BoundingBox::IsScaled;
-#[cfg(doc)]
-use crate::definitions::font_geom::BoundingBox::is_normalized;
-#[cfg(doc)]
-use crate::definitions::font_geom::BoundingBox::normalized_box;
+use crate::definitions::font_geom::BoundingBox::{
+    CanScale, Compares, HasSamePairs, IsScaled, is_normalized, normalized_box,
+};
 
 use core::ops::Mul;
 

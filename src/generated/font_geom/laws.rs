@@ -5,43 +5,16 @@
 #[cfg(doc)]
 use crate::definitions::font_base::Wrap::FitsBits;
 #[cfg(doc)]
-use crate::definitions::font_fixed::F26Dot6::f26dot6_bits;
+use crate::definitions::font_fixed::{F26Dot6::f26dot6_bits, Fixed::fixed_bits};
 #[cfg(doc)]
-use crate::definitions::font_fixed::Fixed::fixed_bits;
-#[cfg(doc)]
-use crate::definitions::font_geom::FixedMatrix::FitsComposed;
-#[cfg(doc)]
-use crate::definitions::font_geom::FixedMatrix::FitsInTurn;
-#[cfg(doc)]
-use crate::definitions::font_geom::FixedMatrix::FitsPoint;
-#[cfg(doc)]
-use crate::definitions::font_geom::FixedMatrix::IsCloseComposed;
-#[cfg(doc)]
-use crate::definitions::font_geom::FixedMatrix::IsCloseImage;
-#[cfg(doc)]
-use crate::definitions::font_geom::FixedMatrix::IsCloseInTurn;
-#[cfg(doc)]
-use crate::definitions::font_geom::FixedMatrix::ProductsAssociate;
-#[cfg(doc)]
-use crate::definitions::font_geom::FixedMatrix::matrix_bits;
-#[cfg(doc)]
-use crate::definitions::font_geom::FixedMatrix::point_bits;
-#[cfg(doc)]
-use crate::definitions::font_geom::FixedMatrix::rounded_product;
-#[cfg(doc)]
-use crate::definitions::font_geom::FixedMatrix::wrapped_product;
-#[cfg(doc)]
-use crate::definitions::font_geom::FixedMatrix::wrapped_sum;
-#[cfg(doc)]
-use crate::definitions::font_geom::Matrix::identity_matrix;
-#[cfg(doc)]
-use crate::definitions::font_geom::Matrix::image_of;
-#[cfg(doc)]
-use crate::definitions::font_geom::Matrix::matrix_product;
-#[cfg(doc)]
-use crate::definitions::font_geom::Scale::IsCloseScaled;
-#[cfg(doc)]
-use crate::definitions::font_geom::Scale::factor_of;
+use crate::definitions::font_geom::{
+    FixedMatrix::{
+        FitsComposed, FitsInTurn, FitsPoint, IsCloseComposed, IsCloseImage, IsCloseInTurn,
+        ProductsAssociate, matrix_bits, point_bits, rounded_product, wrapped_product, wrapped_sum,
+    },
+    Matrix::{identity_matrix, image_of, matrix_product},
+    Scale::{IsCloseScaled, factor_of},
+};
 
 use crate::font_fixed::{F26Dot6, Fixed};
 use crate::font_geom::{Matrix, Point, RingElement, Scale};

@@ -5,35 +5,16 @@
 #[cfg(doc)]
 use crate::definitions::font_base::Wrap::FitsBits;
 #[cfg(doc)]
-use crate::definitions::font_geom::Calls::CallsEach;
-#[cfg(doc)]
-use crate::definitions::font_geom::Calls::CanCallEach;
-#[cfg(doc)]
-use crate::definitions::font_geom::FixedMatrix::FitsPoint;
-#[cfg(doc)]
-use crate::definitions::font_geom::FixedMatrix::bits_of_point;
-#[cfg(doc)]
-use crate::definitions::font_geom::FixedMatrix::matrix_bits;
-#[cfg(doc)]
-use crate::definitions::font_geom::FixedMatrix::point_bits;
-#[cfg(doc)]
-use crate::definitions::font_geom::FixedMatrix::rounded_image;
-#[cfg(doc)]
-use crate::definitions::font_geom::FixedMatrix::rounded_matrix_product;
-#[cfg(doc)]
-use crate::definitions::font_geom::Matrix::CanMultiply;
-#[cfg(doc)]
-use crate::definitions::font_geom::Matrix::CanTransform;
-#[cfg(doc)]
-use crate::definitions::font_geom::Matrix::FitsEach;
-#[cfg(doc)]
-use crate::definitions::font_geom::Matrix::IsProductOf;
-#[cfg(doc)]
-use crate::definitions::font_geom::Matrix::IsTransformed;
-#[cfg(doc)]
-use crate::definitions::font_geom::Matrix::elements_of;
-#[cfg(doc)]
-use crate::definitions::font_geom::Matrix::identity_matrix;
+use crate::definitions::font_geom::{
+    Calls::{CallsEach, CanCallEach},
+    FixedMatrix::{
+        FitsPoint, bits_of_point, matrix_bits, point_bits, rounded_image, rounded_matrix_product,
+    },
+    Matrix::{
+        CanMultiply, CanTransform, FitsEach, IsProductOf, IsTransformed, elements_of,
+        identity_matrix,
+    },
+};
 
 use crate::font_fixed::{F48Dot16, Fixed, FixedI32, nearest_product};
 use crate::font_geom::Point;

@@ -7,9 +7,7 @@ use crate::definitions::font_base::Wrap::FitsBits;
 #[cfg(doc)]
 use crate::definitions::font_fixed::FixedI32::bits_of;
 #[cfg(doc)]
-use crate::definitions::font_geom::Calls::CallsEach;
-#[cfg(doc)]
-use crate::definitions::font_geom::Calls::CanCallEach;
+use crate::definitions::font_geom::Calls::{CallsEach, CanCallEach};
 
 use crate::font_fixed::FixedI32;
 use core::ops::{Add, AddAssign, Div, DivAssign, Mul, MulAssign, Neg, Sub, SubAssign};

@@ -5,17 +5,12 @@
 #[cfg(doc)]
 use crate::definitions::font_base::Wrap::FitsBits;
 #[cfg(doc)]
-use crate::definitions::font_fixed::F26Dot6::f26dot6_bits;
+use crate::definitions::font_fixed::{F26Dot6::f26dot6_bits, Fixed::fixed_bits};
 #[cfg(doc)]
-use crate::definitions::font_fixed::Fixed::fixed_bits;
-#[cfg(doc)]
-use crate::definitions::font_geom::FixedMatrix::FitsPoint;
-#[cfg(doc)]
-use crate::definitions::font_geom::FixedMatrix::rounded_product;
-#[cfg(doc)]
-use crate::definitions::font_geom::Scale::factor_of;
-#[cfg(doc)]
-use crate::definitions::font_geom::Scale::scale_bits;
+use crate::definitions::font_geom::{
+    FixedMatrix::{FitsPoint, rounded_product},
+    Scale::{factor_of, scale_bits},
+};
 
 use crate::font_fixed::{F26Dot6, Fixed, product};
 use crate::font_geom::Point;

@@ -3,31 +3,16 @@
 //! 16-bit quantities in font design units.
 
 #[cfg(doc)]
-use crate::definitions::font_base::Bytes::bytes_of;
+use crate::definitions::font_base::{
+    Bytes::{bytes_of, numeral, signed_numeral},
+    Wrap::{FitsBits, fits_bits, wrap},
+};
 #[cfg(doc)]
-use crate::definitions::font_base::Bytes::numeral;
+use crate::definitions::font_fixed::{F48Dot16::f48dot16_bits, Fixed::fixed_bits};
 #[cfg(doc)]
-use crate::definitions::font_base::Bytes::signed_numeral;
-#[cfg(doc)]
-use crate::definitions::font_base::Wrap::FitsBits;
-#[cfg(doc)]
-use crate::definitions::font_base::Wrap::fits_bits;
-#[cfg(doc)]
-use crate::definitions::font_base::Wrap::wrap;
-#[cfg(doc)]
-use crate::definitions::font_fixed::F48Dot16::f48dot16_bits;
-#[cfg(doc)]
-use crate::definitions::font_fixed::Fixed::fixed_bits;
-#[cfg(doc)]
-use crate::definitions::font_ids::FWord::fword_number;
-#[cfg(doc)]
-use crate::definitions::font_ids::FWord::fword_of;
-#[cfg(doc)]
-use crate::definitions::font_ids::FWord::nearest_unit;
-#[cfg(doc)]
-use crate::definitions::font_ids::FWord::ufword_number;
-#[cfg(doc)]
-use crate::definitions::font_ids::FWord::ufword_of;
+use crate::definitions::font_ids::FWord::{
+    fword_number, fword_of, nearest_unit, ufword_number, ufword_of,
+};
 
 use crate::font_base::{FixedSize, IdentityEq, Scalar};
 use crate::font_fixed::{F48Dot16, Fixed, fitting_16, nearest_step, nearest_sum};

@@ -3,29 +3,15 @@
 //! Glyph ids.
 
 #[cfg(doc)]
-use crate::definitions::font_base::Bytes::bytes_of;
+use crate::definitions::font_base::{
+    Bytes::{bytes_of, numeral},
+    Uint24::{UINT24_MAX, bytes_of_uint24, uint24_of_bytes},
+};
 #[cfg(doc)]
-use crate::definitions::font_base::Bytes::numeral;
-#[cfg(doc)]
-use crate::definitions::font_base::Uint24::UINT24_MAX;
-#[cfg(doc)]
-use crate::definitions::font_base::Uint24::bytes_of_uint24;
-#[cfg(doc)]
-use crate::definitions::font_base::Uint24::uint24_of_bytes;
-#[cfg(doc)]
-use crate::definitions::font_ids::GlyphId::glyph_number;
-#[cfg(doc)]
-use crate::definitions::font_ids::GlyphId::glyph_text;
-#[cfg(doc)]
-use crate::definitions::font_ids::GlyphId::glyph16_number;
-#[cfg(doc)]
-use crate::definitions::font_ids::GlyphId::glyph16_of;
-#[cfg(doc)]
-use crate::definitions::font_ids::GlyphId::glyph24_number;
-#[cfg(doc)]
-use crate::definitions::font_ids::GlyphId::glyph24_of;
-#[cfg(doc)]
-use crate::definitions::font_ids::GlyphId::refused_number;
+use crate::definitions::font_ids::GlyphId::{
+    glyph_number, glyph_text, glyph16_number, glyph16_of, glyph24_number, glyph24_of,
+    refused_number,
+};
 
 use crate::font_base::{FixedSize, IdentityEq, Scalar, Uint24};
 use core::cmp::Ordering;

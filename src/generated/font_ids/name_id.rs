@@ -3,23 +3,12 @@
 //! Name ids of the `name` table.
 
 #[cfg(doc)]
-use crate::definitions::font_base::Bytes::bytes_of;
+use crate::definitions::font_base::Bytes::{bytes_of, numeral};
 #[cfg(doc)]
-use crate::definitions::font_base::Bytes::numeral;
-#[cfg(doc)]
-use crate::definitions::font_ids::NameId::last_allowed;
-#[cfg(doc)]
-use crate::definitions::font_ids::NameId::last_reserved;
-#[cfg(doc)]
-use crate::definitions::font_ids::NameId::name_id_of;
-#[cfg(doc)]
-use crate::definitions::font_ids::NameId::name_number;
-#[cfg(doc)]
-use crate::definitions::font_ids::NameId::name_text;
-#[cfg(doc)]
-use crate::definitions::font_ids::NameId::predefined_left;
-#[cfg(doc)]
-use crate::definitions::font_ids::NameId::predefined_numbers;
+use crate::definitions::font_ids::NameId::{
+    last_allowed, last_reserved, name_id_of, name_number, name_text, predefined_left,
+    predefined_numbers,
+};
 
 use crate::font_base::{FixedSize, IdentityEq, Scalar};
 use core::fmt;

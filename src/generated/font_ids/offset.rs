@@ -3,31 +3,15 @@
 //! Offsets to tables.
 
 #[cfg(doc)]
-use crate::definitions::font_base::Bytes::bytes_of;
+use crate::definitions::font_base::{
+    Bytes::{bytes_of, numeral},
+    Uint24::{bytes_of_uint24, uint24_number, uint24_of_bytes},
+};
 #[cfg(doc)]
-use crate::definitions::font_base::Bytes::numeral;
-#[cfg(doc)]
-use crate::definitions::font_base::Uint24::bytes_of_uint24;
-#[cfg(doc)]
-use crate::definitions::font_base::Uint24::uint24_number;
-#[cfg(doc)]
-use crate::definitions::font_base::Uint24::uint24_of_bytes;
-#[cfg(doc)]
-use crate::definitions::font_ids::Offset::nullable_of;
-#[cfg(doc)]
-use crate::definitions::font_ids::Offset::nullable_offset;
-#[cfg(doc)]
-use crate::definitions::font_ids::Offset::offset16_number;
-#[cfg(doc)]
-use crate::definitions::font_ids::Offset::offset16_of;
-#[cfg(doc)]
-use crate::definitions::font_ids::Offset::offset24_number;
-#[cfg(doc)]
-use crate::definitions::font_ids::Offset::offset24_of;
-#[cfg(doc)]
-use crate::definitions::font_ids::Offset::offset32_number;
-#[cfg(doc)]
-use crate::definitions::font_ids::Offset::offset32_of;
+use crate::definitions::font_ids::Offset::{
+    nullable_of, nullable_offset, offset16_number, offset16_of, offset24_number, offset24_of,
+    offset32_number, offset32_of,
+};
 
 use crate::font_base::{FixedSize, IdentityEq, Scalar, Uint24};
 

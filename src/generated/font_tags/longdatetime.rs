@@ -3,15 +3,12 @@
 //! Dates and times.
 
 #[cfg(doc)]
-use crate::definitions::font_base::Bytes::bytes_of;
+use crate::definitions::font_base::{
+    Bytes::{bytes_of, signed_numeral},
+    Wrap::fits_bits,
+};
 #[cfg(doc)]
-use crate::definitions::font_base::Bytes::signed_numeral;
-#[cfg(doc)]
-use crate::definitions::font_base::Wrap::fits_bits;
-#[cfg(doc)]
-use crate::definitions::font_tags::LongDateTime::date_of;
-#[cfg(doc)]
-use crate::definitions::font_tags::LongDateTime::date_seconds;
+use crate::definitions::font_tags::LongDateTime::{date_of, date_seconds};
 
 use crate::font_base::{FixedSize, IdentityEq, Scalar};
 

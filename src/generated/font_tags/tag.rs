@@ -3,27 +3,11 @@
 //! Four-byte tags.
 
 #[cfg(doc)]
-use crate::definitions::font_base::Bytes::are_bytes;
+use crate::definitions::font_base::Bytes::{are_bytes, bytes_of, numeral};
 #[cfg(doc)]
-use crate::definitions::font_base::Bytes::bytes_of;
-#[cfg(doc)]
-use crate::definitions::font_base::Bytes::numeral;
-#[cfg(doc)]
-use crate::definitions::font_tags::Tag::IsAcceptable;
-#[cfg(doc)]
-use crate::definitions::font_tags::Tag::IsChecked;
-#[cfg(doc)]
-use crate::definitions::font_tags::Tag::IsGood;
-#[cfg(doc)]
-use crate::definitions::font_tags::Tag::IsValidated;
-#[cfg(doc)]
-use crate::definitions::font_tags::Tag::four_spaces;
-#[cfg(doc)]
-use crate::definitions::font_tags::Tag::tag_bytes;
-#[cfg(doc)]
-use crate::definitions::font_tags::Tag::tag_of;
-#[cfg(doc)]
-use crate::definitions::font_tags::Tag::tag_text;
+use crate::definitions::font_tags::Tag::{
+    IsAcceptable, IsChecked, IsGood, IsValidated, four_spaces, tag_bytes, tag_of, tag_text,
+};
 
 use crate::font_base::{FixedSize, IdentityEq, Scalar};
 use core::cmp::Ordering;

@@ -3,29 +3,12 @@
 //! Table versions.
 
 #[cfg(doc)]
-use crate::definitions::font_base::Bytes::bytes_of;
+use crate::definitions::font_base::Bytes::{bytes_of, numeral};
 #[cfg(doc)]
-use crate::definitions::font_base::Bytes::numeral;
-#[cfg(doc)]
-use crate::definitions::font_tags::Version::IsCompatible;
-#[cfg(doc)]
-use crate::definitions::font_tags::Version::hex_text;
-#[cfg(doc)]
-use crate::definitions::font_tags::Version::major_minor_bytes;
-#[cfg(doc)]
-use crate::definitions::font_tags::Version::major_minor_of;
-#[cfg(doc)]
-use crate::definitions::font_tags::Version::packed_version;
-#[cfg(doc)]
-use crate::definitions::font_tags::Version::version_bits;
-#[cfg(doc)]
-use crate::definitions::font_tags::Version::version_major;
-#[cfg(doc)]
-use crate::definitions::font_tags::Version::version_minor;
-#[cfg(doc)]
-use crate::definitions::font_tags::Version::version_of;
-#[cfg(doc)]
-use crate::definitions::font_tags::Version::version_text;
+use crate::definitions::font_tags::Version::{
+    IsCompatible, hex_text, major_minor_bytes, major_minor_of, packed_version, version_bits,
+    version_major, version_minor, version_of, version_text,
+};
 
 use crate::font_base::{FixedSize, IdentityEq, Scalar};
 use core::fmt;

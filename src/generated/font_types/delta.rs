@@ -3,21 +3,15 @@
 //! Sums of deltas.
 
 #[cfg(doc)]
-use crate::definitions::font_base::Wrap::FitsBits;
+use crate::definitions::font_base::Wrap::{FitsBits, wrap};
 #[cfg(doc)]
-use crate::definitions::font_base::Wrap::wrap;
-#[cfg(doc)]
-use crate::definitions::font_fixed::F48Dot16::f48dot16_bits;
-#[cfg(doc)]
-use crate::definitions::font_fixed::Fixed::fixed_bits;
-#[cfg(doc)]
-use crate::definitions::font_fixed::Operations::WrapsTo;
+use crate::definitions::font_fixed::{
+    F48Dot16::f48dot16_bits, Fixed::fixed_bits, Operations::WrapsTo,
+};
 #[cfg(doc)]
 use crate::definitions::font_ids::FWord::fword_number;
 #[cfg(doc)]
-use crate::definitions::font_types::Delta::exact_sum;
-#[cfg(doc)]
-use crate::definitions::font_types::DeltaSum::steps_of;
+use crate::definitions::font_types::{Delta::exact_sum, DeltaSum::steps_of};
 
 use crate::font_fixed::{F48Dot16, Fixed};
 use crate::font_ids::FWord;

@@ -3,25 +3,18 @@
 //! Laws, as contracts of functions.
 
 #[cfg(doc)]
-use crate::definitions::font_base::Wrap::FitsBits;
+use crate::definitions::font_base::Wrap::{FitsBits, wrap};
 #[cfg(doc)]
-use crate::definitions::font_base::Wrap::wrap;
+use crate::definitions::font_fixed::{
+    F48Dot16::f48dot16_bits,
+    Fixed::fixed_bits,
+    Operations::{IsMulDiv, rounded_mul_div},
+};
 #[cfg(doc)]
-use crate::definitions::font_fixed::F48Dot16::f48dot16_bits;
-#[cfg(doc)]
-use crate::definitions::font_fixed::Fixed::fixed_bits;
-#[cfg(doc)]
-use crate::definitions::font_fixed::Operations::IsMulDiv;
-#[cfg(doc)]
-use crate::definitions::font_fixed::Operations::rounded_mul_div;
-#[cfg(doc)]
-use crate::definitions::font_types::Delta::exact_sum;
-#[cfg(doc)]
-use crate::definitions::font_types::Delta::scaled;
-#[cfg(doc)]
-use crate::definitions::font_types::Delta::total;
-#[cfg(doc)]
-use crate::definitions::font_types::DeltaSum::steps_of;
+use crate::definitions::font_types::{
+    Delta::{exact_sum, scaled, total},
+    DeltaSum::steps_of,
+};
 
 pub use crate::font_decimal::laws::{printed_again, prints_in_order, reads_in_order};
 pub use crate::font_fixed::laws::{f26dot6, fixed};

@@ -3,35 +3,15 @@
 //! Advances by a table `HVAR`, from its bytes to a varied advance.
 
 #[cfg(doc)]
-use crate::definitions::font_ids::FWord::ufword_number;
+use crate::definitions::font_ids::{FWord::ufword_number, GlyphId::glyph16_number};
 #[cfg(doc)]
-use crate::definitions::font_ids::GlyphId::glyph16_number;
-#[cfg(doc)]
-use crate::definitions::variations::Advances::HasData;
-#[cfg(doc)]
-use crate::definitions::variations::Advances::HasGlyphSet;
-#[cfg(doc)]
-use crate::definitions::variations::Advances::HasTarget;
-#[cfg(doc)]
-use crate::definitions::variations::Advances::inner_index;
-#[cfg(doc)]
-use crate::definitions::variations::Advances::outer_index;
-#[cfg(doc)]
-use crate::definitions::variations::Advances::regions_of;
-#[cfg(doc)]
-use crate::definitions::variations::Advances::subtable_of;
-#[cfg(doc)]
-use crate::definitions::variations::Advances::target_of;
-#[cfg(doc)]
-use crate::definitions::variations::Variations::HasNoVaried;
-#[cfg(doc)]
-use crate::definitions::variations::Variations::HasSet;
-#[cfg(doc)]
-use crate::definitions::variations::Variations::IsNearAdvance;
-#[cfg(doc)]
-use crate::definitions::variations::Variations::IsNoVariation;
-#[cfg(doc)]
-use crate::definitions::variations::Variations::IsVaried;
+use crate::definitions::variations::{
+    Advances::{
+        HasData, HasGlyphSet, HasTarget, inner_index, outer_index, regions_of, subtable_of,
+        target_of,
+    },
+    Variations::{HasNoVaried, HasSet, IsNearAdvance, IsNoVariation, IsVaried},
+};
 
 use super::delta_sets::vary_advance;
 use super::maps::{DeltaSetIndex, is_no_variation, read_delta_set_index};

@@ -120,9 +120,10 @@ pub mod font_decimal {
     ///
     /// In the order of `crates/font_decimal/specs/Reading.antt`: [`Rounds`](mod@Reading::Rounds), [`Reads`](mod@Reading::Reads), [`IsOutOfRange`](mod@Reading::IsOutOfRange), [`Parses`](mod@Reading::Parses).
     pub mod Reading {
-        use crate::definitions::font_decimal::Grammar::Decimal;
-        use crate::definitions::font_decimal::Grammar::IsNoDecimal;
-        use crate::definitions::font_decimal::Near::Near;
+        use crate::definitions::font_decimal::{
+            Grammar::{Decimal, IsNoDecimal},
+            Near::Near,
+        };
         /// the text is a decimal that rounds to b / 2^f, half away from zero
         ///
         /// ```text
@@ -173,8 +174,7 @@ pub mod font_decimal {
     ///
     /// In the order of `crates/font_decimal/specs/Shortest.antt`: [`nearest_numeral`](mod@Shortest::nearest_numeral), [`reads_back`](mod@Shortest::reads_back), [`places_from`](mod@Shortest::places_from), [`fewest_places`](mod@Shortest::fewest_places), [`last_digits`](mod@Shortest::last_digits), [`decimal_text`](mod@Shortest::decimal_text), [`shortest_text`](mod@Shortest::shortest_text).
     pub mod Shortest {
-        use crate::definitions::font_decimal::Grammar::fraction_text;
-        use crate::definitions::font_decimal::Near::near_magnitude;
+        use crate::definitions::font_decimal::{Grammar::fraction_text, Near::near_magnitude};
         /// the nearest decimal of m / 2^f with p places, times 10^p
         ///
         /// ```text
@@ -413,16 +413,11 @@ pub mod font_fixed {
     ///
     /// In the order of `crates/font_fixed/specs/Operations.antt`: [`wrapped_near`](mod@Operations::wrapped_near), [`IsWrappedNear`](mod@Operations::IsWrappedNear), [`narrowed`](mod@Operations::narrowed), [`IsNarrowed`](mod@Operations::IsNarrowed), [`least`](mod@Operations::least), [`greatest`](mod@Operations::greatest), [`ReadsBits`](mod@Operations::ReadsBits), [`IsTooFar`](mod@Operations::IsTooFar), [`ParsesBits`](mod@Operations::ParsesBits), [`differ_in_sign`](mod@Operations::differ_in_sign), [`IsMulDiv`](mod@Operations::IsMulDiv), [`IsQuotient`](mod@Operations::IsQuotient), [`rounded_mul_div`](mod@Operations::rounded_mul_div).
     pub mod Operations {
-        use crate::definitions::font_base::Wrap::half_range;
-        use crate::definitions::font_base::Wrap::wrap;
-        use crate::definitions::font_decimal::Near::Near;
-        use crate::definitions::font_decimal::Near::Up;
-        use crate::definitions::font_decimal::Near::near;
-        use crate::definitions::font_decimal::Near::signed;
-        use crate::definitions::font_decimal::Near::up;
-        use crate::definitions::font_decimal::Reading::IsOutOfRange;
-        use crate::definitions::font_decimal::Reading::Parses;
-        use crate::definitions::font_decimal::Reading::Reads;
+        use crate::definitions::font_base::Wrap::{half_range, wrap};
+        use crate::definitions::font_decimal::{
+            Near::{Near, Up, near, signed, up},
+            Reading::{IsOutOfRange, Parses, Reads},
+        };
         /// n / d rounded half away from zero and wrapped to w bits
         ///
         /// ```text
@@ -554,11 +549,8 @@ pub mod font_fixed {
     ///
     /// In the order of `crates/font_fixed/specs/Reading.antt`: [`ParsesFixedPoint`](mod@Reading::ParsesFixedPoint).
     pub mod Reading {
-        use crate::definitions::font_decimal::Grammar::IsNoDecimal;
-        use crate::definitions::font_decimal::Shortest::shortest_text;
-        use crate::definitions::font_fixed::Operations::IsTooFar;
-        use crate::definitions::font_fixed::Operations::ParsesBits;
-        use crate::definitions::font_fixed::Operations::ReadsBits;
+        use crate::definitions::font_decimal::{Grammar::IsNoDecimal, Shortest::shortest_text};
+        use crate::definitions::font_fixed::Operations::{IsTooFar, ParsesBits, ReadsBits};
         /// The result of parsing: the nearest value of the type with width w and f fraction bits; `Syntax` if the text is not a
         /// decimal; `OutOfRange` if its nearest value does not fit in the width. The printed text of a value parses as that
         /// value.
@@ -730,9 +722,7 @@ pub mod variations {
     /// In the order of `crates/variations/specs/Advances.antt`: [`offset_at`](mod@Advances::offset_at), [`HasTarget`](mod@Advances::HasTarget), [`target_of`](mod@Advances::target_of), [`HasGlyphSet`](mod@Advances::HasGlyphSet), [`outer_index`](mod@Advances::outer_index), [`inner_index`](mod@Advances::inner_index), [`data_count`](mod@Advances::data_count), [`data_place`](mod@Advances::data_place), [`HasRegionList`](mod@Advances::HasRegionList), [`HasData`](mod@Advances::HasData), [`regions_of`](mod@Advances::regions_of), [`subtable_of`](mod@Advances::subtable_of).
     pub mod Advances {
         use crate::definitions::font_base::Bytes::numeral;
-        use crate::definitions::variations::Variations::HasEntry;
-        use crate::definitions::variations::Variations::entry_of;
-        use crate::definitions::variations::Variations::inner_bits;
+        use crate::definitions::variations::Variations::{HasEntry, entry_of, inner_bits};
         /// the offset of four bytes at a place (OpenType, Data Types: Offset32, zero for null)
         ///
         /// ```text
@@ -863,22 +853,17 @@ pub mod variations {
     ///
     /// In the order of `crates/variations/specs/Evaluator.antt`: [`value_start`](mod@Evaluator::value_start), [`axis_part`](mod@Evaluator::axis_part), [`value_part`](mod@Evaluator::value_part), [`IsSetting`](mod@Evaluator::IsSetting), [`ParsesSetting`](mod@Evaluator::ParsesSetting), [`HasRange`](mod@Evaluator::HasRange), [`lerp_part`](mod@Evaluator::lerp_part), [`lerp_whole`](mod@Evaluator::lerp_whole), [`lerp_rise`](mod@Evaluator::lerp_rise), [`on_line`](mod@Evaluator::on_line), [`FitsLerp`](mod@Evaluator::FitsLerp), [`IsLerp`](mod@Evaluator::IsLerp), [`mapping_count`](mod@Evaluator::mapping_count), [`mapping_at`](mod@Evaluator::mapping_at), [`AreBelow`](mod@Evaluator::AreBelow), [`IsSegmentEnd`](mod@Evaluator::IsSegmentEnd), [`IsMappedIn`](mod@Evaluator::IsMappedIn), [`IsMapped`](mod@Evaluator::IsMapped), [`avar_axis_count`](mod@Evaluator::avar_axis_count), [`position_map_count`](mod@Evaluator::position_map_count), [`map_offset`](mod@Evaluator::map_offset), [`map_length`](mod@Evaluator::map_length), [`HasSegmentMap`](mod@Evaluator::HasSegmentMap), [`segment_map_bytes`](mod@Evaluator::segment_map_bytes), [`IsStoredCoordinate`](mod@Evaluator::IsStoredCoordinate), [`IsFinal`](mod@Evaluator::IsFinal).
     pub mod Evaluator {
-        use crate::definitions::font_base::Bytes::numeral;
-        use crate::definitions::font_base::Wrap::FitsBits;
-        use crate::definitions::font_base::Wrap::wrap;
-        use crate::definitions::font_fixed::F2Dot14::F2Dot14;
-        use crate::definitions::font_fixed::F2Dot14::f2dot14_bits;
-        use crate::definitions::font_fixed::Fixed::Fixed;
-        use crate::definitions::font_fixed::Fixed::NEG_ONE;
-        use crate::definitions::font_fixed::Fixed::ONE;
-        use crate::definitions::font_fixed::Fixed::fixed_bits;
-        use crate::definitions::font_fixed::Fixed::fixed_of;
-        use crate::definitions::font_fixed::Operations::IsMulDiv;
-        use crate::definitions::font_fixed::Operations::IsNarrowed;
-        use crate::definitions::font_fixed::Operations::rounded_mul_div;
-        use crate::definitions::font_fixed::Reading::ParsesFixedPoint;
-        use crate::definitions::font_tags::Tag::IsAcceptable;
-        use crate::definitions::font_tags::Tag::IsChecked;
+        use crate::definitions::font_base::{
+            Bytes::numeral,
+            Wrap::{FitsBits, wrap},
+        };
+        use crate::definitions::font_fixed::{
+            F2Dot14::{F2Dot14, f2dot14_bits},
+            Fixed::{Fixed, NEG_ONE, ONE, fixed_bits, fixed_of},
+            Operations::{IsMulDiv, IsNarrowed, rounded_mul_div},
+            Reading::ParsesFixedPoint,
+        };
+        use crate::definitions::font_tags::Tag::{IsAcceptable, IsChecked};
         use crate::definitions::variations::Variations::stored_bits;
         /// where the first `=` is, or the length of a text without one
         ///
@@ -1149,16 +1134,15 @@ pub mod variations {
     ///
     /// In the order of `crates/variations/specs/Variations.antt`: [`IsIgnored`](mod@Variations::IsIgnored), [`IsOffRegion`](mod@Variations::IsOffRegion), [`IsScalarAfter`](mod@Variations::IsScalarAfter), [`IsAxisScalar`](mod@Variations::IsAxisScalar), [`axis_count`](mod@Variations::axis_count), [`region_count`](mod@Variations::region_count), [`region_offset`](mod@Variations::region_offset), [`HasRegion`](mod@Variations::HasRegion), [`region_bytes`](mod@Variations::region_bytes), [`stored_bits`](mod@Variations::stored_bits), [`coordinate_bits`](mod@Variations::coordinate_bits), [`IsScalarAfterAxis`](mod@Variations::IsScalarAfterAxis), [`IsScalarOf`](mod@Variations::IsScalarOf), [`IsRegionScalar`](mod@Variations::IsRegionScalar), [`is_ignored_axis`](mod@Variations::is_ignored_axis), [`share`](mod@Variations::share), [`scalar_after`](mod@Variations::scalar_after), [`scalar_of`](mod@Variations::scalar_of), [`region_scalar`](mod@Variations::region_scalar), [`AreScalars`](mod@Variations::AreScalars), [`Fraction`](mod@Variations::Fraction), [`whole`](mod@Variations::whole), [`part_of`](mod@Variations::part_of), [`times`](mod@Variations::times), [`plus`](mod@Variations::plus), [`IsOffBy`](mod@Variations::IsOffBy), [`exact_axis_scalar`](mod@Variations::exact_axis_scalar), [`exact_scalar`](mod@Variations::exact_scalar), [`IsNearScalar`](mod@Variations::IsNearScalar), [`exact_region_scalar`](mod@Variations::exact_region_scalar), [`IsNearRegionScalar`](mod@Variations::IsNearRegionScalar), [`item_count`](mod@Variations::item_count), [`word_delta_count`](mod@Variations::word_delta_count), [`region_index_count`](mod@Variations::region_index_count), [`region_index`](mod@Variations::region_index), [`narrow_width`](mod@Variations::narrow_width), [`delta_width`](mod@Variations::delta_width), [`delta_place`](mod@Variations::delta_place), [`column_width`](mod@Variations::column_width), [`delta_offset`](mod@Variations::delta_offset), [`HasDelta`](mod@Variations::HasDelta), [`delta_of`](mod@Variations::delta_of), [`HasTerm`](mod@Variations::HasTerm), [`IsTerm`](mod@Variations::IsTerm), [`IsTermProduct`](mod@Variations::IsTermProduct), [`IsSumThrough`](mod@Variations::IsSumThrough), [`IsSetSum`](mod@Variations::IsSetSum), [`exact_delta`](mod@Variations::exact_delta), [`sum_of_magnitudes`](mod@Variations::sum_of_magnitudes), [`sum_halves`](mod@Variations::sum_halves), [`IsNearSetSum`](mod@Variations::IsNearSetSum), [`exact_advance`](mod@Variations::exact_advance), [`IsNearAdvance`](mod@Variations::IsNearAdvance), [`HasSet`](mod@Variations::HasSet), [`moved`](mod@Variations::moved), [`IsAdvance`](mod@Variations::IsAdvance), [`IsVaried`](mod@Variations::IsVaried), [`HasNoVaried`](mod@Variations::HasNoVaried), [`map_format`](mod@Variations::map_format), [`entry_format`](mod@Variations::entry_format), [`map_count`](mod@Variations::map_count), [`map_start`](mod@Variations::map_start), [`entry_width`](mod@Variations::entry_width), [`inner_bits`](mod@Variations::inner_bits), [`entry_offset`](mod@Variations::entry_offset), [`HasEntry`](mod@Variations::HasEntry), [`entry_of`](mod@Variations::entry_of), [`IsNoVariation`](mod@Variations::IsNoVariation).
     pub mod Variations {
-        use crate::definitions::font_base::Bytes::numeral;
-        use crate::definitions::font_base::Bytes::signed_numeral;
-        use crate::definitions::font_base::Wrap::wrap;
-        use crate::definitions::font_fixed::F2Dot14::F2Dot14;
-        use crate::definitions::font_fixed::F2Dot14::f2dot14_bits;
-        use crate::definitions::font_fixed::F2Dot14::f2dot14_of;
-        use crate::definitions::font_fixed::Fixed::Fixed;
-        use crate::definitions::font_fixed::Fixed::fixed_bits;
-        use crate::definitions::font_fixed::Operations::IsMulDiv;
-        use crate::definitions::font_fixed::Operations::rounded_mul_div;
+        use crate::definitions::font_base::{
+            Bytes::{numeral, signed_numeral},
+            Wrap::wrap,
+        };
+        use crate::definitions::font_fixed::{
+            F2Dot14::{F2Dot14, f2dot14_bits, f2dot14_of},
+            Fixed::{Fixed, fixed_bits},
+            Operations::{IsMulDiv, rounded_mul_div},
+        };
         use crate::definitions::font_ids::FWord::nearest_unit;
         /// the axis is ignored: start, peak and end are out of order, or on both sides of zero, or the peak is zero
         ///

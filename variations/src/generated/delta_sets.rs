@@ -3,31 +3,14 @@
 //! Delta sets of item variation data: their deltas, their sums, and advances that they move.
 
 #[cfg(doc)]
-use crate::definitions::font_fixed::F48Dot16::f48dot16_bits;
-#[cfg(doc)]
-use crate::definitions::font_fixed::Fixed::fixed_bits;
+use crate::definitions::font_fixed::{F48Dot16::f48dot16_bits, Fixed::fixed_bits};
 #[cfg(doc)]
 use crate::definitions::font_ids::FWord::ufword_number;
 #[cfg(doc)]
-use crate::definitions::variations::Variations::HasDelta;
-#[cfg(doc)]
-use crate::definitions::variations::Variations::HasNoVaried;
-#[cfg(doc)]
-use crate::definitions::variations::Variations::HasSet;
-#[cfg(doc)]
-use crate::definitions::variations::Variations::HasTerm;
-#[cfg(doc)]
-use crate::definitions::variations::Variations::IsNearAdvance;
-#[cfg(doc)]
-use crate::definitions::variations::Variations::IsNearSetSum;
-#[cfg(doc)]
-use crate::definitions::variations::Variations::IsSetSum;
-#[cfg(doc)]
-use crate::definitions::variations::Variations::IsTerm;
-#[cfg(doc)]
-use crate::definitions::variations::Variations::IsVaried;
-#[cfg(doc)]
-use crate::definitions::variations::Variations::delta_of;
+use crate::definitions::variations::Variations::{
+    HasDelta, HasNoVaried, HasSet, HasTerm, IsNearAdvance, IsNearSetSum, IsSetSum, IsTerm,
+    IsVaried, delta_of,
+};
 
 use super::regions::region_scalar;
 use font_types_proved::{F2Dot14, F48Dot16, Fixed, Scalar, UfWord};

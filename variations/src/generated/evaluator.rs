@@ -3,35 +3,20 @@
 //! Coordinates of an instance: settings, `fvar` and `avar`.
 
 #[cfg(doc)]
-use crate::definitions::font_base::Bytes::numeral;
+use crate::definitions::font_base::Bytes::{numeral, signed_numeral};
 #[cfg(doc)]
-use crate::definitions::font_base::Bytes::signed_numeral;
-#[cfg(doc)]
-use crate::definitions::font_fixed::F2Dot14::f2dot14_bits;
-#[cfg(doc)]
-use crate::definitions::font_fixed::Fixed::fixed_bits;
-#[cfg(doc)]
-use crate::definitions::font_fixed::Operations::IsQuotient;
+use crate::definitions::font_fixed::{
+    F2Dot14::f2dot14_bits, Fixed::fixed_bits, Operations::IsQuotient,
+};
 #[cfg(doc)]
 use crate::definitions::font_ids::NameId::name_number;
 #[cfg(doc)]
 use crate::definitions::font_tags::Tag::tag_bytes;
 #[cfg(doc)]
-use crate::definitions::variations::Evaluator::HasRange;
-#[cfg(doc)]
-use crate::definitions::variations::Evaluator::HasSegmentMap;
-#[cfg(doc)]
-use crate::definitions::variations::Evaluator::IsFinal;
-#[cfg(doc)]
-use crate::definitions::variations::Evaluator::IsMapped;
-#[cfg(doc)]
-use crate::definitions::variations::Evaluator::IsStoredCoordinate;
-#[cfg(doc)]
-use crate::definitions::variations::Evaluator::ParsesSetting;
-#[cfg(doc)]
-use crate::definitions::variations::Evaluator::map_offset;
-#[cfg(doc)]
-use crate::definitions::variations::Evaluator::segment_map_bytes;
+use crate::definitions::variations::Evaluator::{
+    HasRange, HasSegmentMap, IsFinal, IsMapped, IsStoredCoordinate, ParsesSetting, map_offset,
+    segment_map_bytes,
+};
 
 use font_types_proved::{DecimalFault, F2Dot14, Fixed, InvalidTag, NameId, Scalar, Tag};
 

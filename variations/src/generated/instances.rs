@@ -3,43 +3,17 @@
 //! Item variation stores at the coordinates of an instance.
 
 #[cfg(doc)]
-use crate::definitions::font_fixed::F48Dot16::f48dot16_bits;
-#[cfg(doc)]
-use crate::definitions::font_fixed::Fixed::fixed_bits;
+use crate::definitions::font_fixed::{F48Dot16::f48dot16_bits, Fixed::fixed_bits};
 #[cfg(doc)]
 use crate::definitions::font_ids::FWord::ufword_number;
 #[cfg(doc)]
-use crate::definitions::variations::Advances::HasData;
-#[cfg(doc)]
-use crate::definitions::variations::Advances::HasRegionList;
-#[cfg(doc)]
-use crate::definitions::variations::Advances::HasTarget;
-#[cfg(doc)]
-use crate::definitions::variations::Advances::regions_of;
-#[cfg(doc)]
-use crate::definitions::variations::Advances::subtable_of;
-#[cfg(doc)]
-use crate::definitions::variations::Variations::AreScalars;
-#[cfg(doc)]
-use crate::definitions::variations::Variations::HasNoVaried;
-#[cfg(doc)]
-use crate::definitions::variations::Variations::HasRegion;
-#[cfg(doc)]
-use crate::definitions::variations::Variations::HasSet;
-#[cfg(doc)]
-use crate::definitions::variations::Variations::IsNearAdvance;
-#[cfg(doc)]
-use crate::definitions::variations::Variations::IsNearSetSum;
-#[cfg(doc)]
-use crate::definitions::variations::Variations::IsNoVariation;
-#[cfg(doc)]
-use crate::definitions::variations::Variations::IsRegionScalar;
-#[cfg(doc)]
-use crate::definitions::variations::Variations::IsSetSum;
-#[cfg(doc)]
-use crate::definitions::variations::Variations::IsVaried;
-#[cfg(doc)]
-use crate::definitions::variations::Variations::region_count;
+use crate::definitions::variations::{
+    Advances::{HasData, HasRegionList, HasTarget, regions_of, subtable_of},
+    Variations::{
+        AreScalars, HasNoVaried, HasRegion, HasSet, IsNearAdvance, IsNearSetSum, IsNoVariation,
+        IsRegionScalar, IsSetSum, IsVaried, region_count,
+    },
+};
 
 use super::advances::{at_offset, data_of};
 use super::delta_sets::{column_in, row_of};

@@ -3,13 +3,7 @@
 //! Maps from indices to delta sets.
 
 #[cfg(doc)]
-use crate::definitions::variations::Variations::HasEntry;
-#[cfg(doc)]
-use crate::definitions::variations::Variations::IsNoVariation;
-#[cfg(doc)]
-use crate::definitions::variations::Variations::entry_of;
-#[cfg(doc)]
-use crate::definitions::variations::Variations::inner_bits;
+use crate::definitions::variations::Variations::{HasEntry, IsNoVariation, entry_of, inner_bits};
 
 use font_types_proved::{Scalar, Uint24};
 

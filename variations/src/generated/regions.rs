@@ -3,21 +3,11 @@
 //! Variation regions: the scalar of each axis, and of a region.
 
 #[cfg(doc)]
-use crate::definitions::font_fixed::F2Dot14::f2dot14_bits;
+use crate::definitions::font_fixed::{F2Dot14::f2dot14_bits, Fixed::fixed_bits};
 #[cfg(doc)]
-use crate::definitions::font_fixed::Fixed::fixed_bits;
-#[cfg(doc)]
-use crate::definitions::variations::Variations::AreScalars;
-#[cfg(doc)]
-use crate::definitions::variations::Variations::HasRegion;
-#[cfg(doc)]
-use crate::definitions::variations::Variations::IsAxisScalar;
-#[cfg(doc)]
-use crate::definitions::variations::Variations::IsIgnored;
-#[cfg(doc)]
-use crate::definitions::variations::Variations::IsNearRegionScalar;
-#[cfg(doc)]
-use crate::definitions::variations::Variations::IsRegionScalar;
+use crate::definitions::variations::Variations::{
+    AreScalars, HasRegion, IsAxisScalar, IsIgnored, IsNearRegionScalar, IsRegionScalar,
+};
 
 use font_types_proved::{F2Dot14, Fixed, Scalar};
 

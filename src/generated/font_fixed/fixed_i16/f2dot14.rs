@@ -7,11 +7,9 @@ use crate::definitions::font_base::Wrap::FitsBits;
 #[cfg(doc)]
 use crate::definitions::font_decimal::Near::up;
 #[cfg(doc)]
-use crate::definitions::font_fixed::F2Dot14::f2dot14_bits as bits_of;
-#[cfg(doc)]
-use crate::definitions::font_fixed::F48Dot16::f48dot16_bits;
-#[cfg(doc)]
-use crate::definitions::font_fixed::Fixed::fixed_bits;
+use crate::definitions::font_fixed::{
+    F2Dot14::f2dot14_bits as bits_of, F48Dot16::f48dot16_bits, Fixed::fixed_bits,
+};
 
 use super::FixedI16;
 use crate::font_fixed::formats::Format;

@@ -3,23 +3,14 @@
 //! 26.6 fixed-point numbers.
 
 #[cfg(doc)]
-use crate::definitions::font_base::Wrap::FitsBits;
+use crate::definitions::font_base::Wrap::{FitsBits, wrap};
 #[cfg(doc)]
-use crate::definitions::font_base::Wrap::wrap;
+use crate::definitions::font_decimal::Near::{near, up};
 #[cfg(doc)]
-use crate::definitions::font_decimal::Near::near;
-#[cfg(doc)]
-use crate::definitions::font_decimal::Near::up;
-#[cfg(doc)]
-use crate::definitions::font_fixed::F26Dot6::f26dot6_bits as bits_of;
-#[cfg(doc)]
-use crate::definitions::font_fixed::Operations::IsNarrowed;
-#[cfg(doc)]
-use crate::definitions::font_fixed::Operations::IsProduct;
-#[cfg(doc)]
-use crate::definitions::font_fixed::Operations::IsQuotient;
-#[cfg(doc)]
-use crate::definitions::font_fixed::Operations::rounded_mul_div;
+use crate::definitions::font_fixed::{
+    F26Dot6::f26dot6_bits as bits_of,
+    Operations::{IsNarrowed, IsProduct, IsQuotient, rounded_mul_div},
+};
 
 use super::FixedI32;
 use crate::font_fixed::formats::Format;

@@ -3,27 +3,19 @@
 //! 2.30 fixed-point numbers.
 
 #[cfg(doc)]
-use crate::definitions::font_base::Bytes::bytes_of;
-#[cfg(doc)]
-use crate::definitions::font_base::Bytes::signed_numeral;
-#[cfg(doc)]
-use crate::definitions::font_base::Wrap::FitsBits;
-#[cfg(doc)]
-use crate::definitions::font_base::Wrap::fits_bits;
-#[cfg(doc)]
-use crate::definitions::font_base::Wrap::wrap;
+use crate::definitions::font_base::{
+    Bytes::{bytes_of, signed_numeral},
+    Wrap::{FitsBits, fits_bits, wrap},
+};
 #[cfg(doc)]
 use crate::definitions::font_decimal::Near::up;
 #[cfg(doc)]
-use crate::definitions::font_fixed::F2Dot14::f2dot14_bits;
-#[cfg(doc)]
-use crate::definitions::font_fixed::F2Dot30::f2dot30_bits as bits_of;
-#[cfg(doc)]
-use crate::definitions::font_fixed::F2Dot30::f2dot30_of as of_bits;
-#[cfg(doc)]
-use crate::definitions::font_fixed::Fixed::fixed_bits;
-#[cfg(doc)]
-use crate::definitions::font_fixed::Operations::IsNarrowed;
+use crate::definitions::font_fixed::{
+    F2Dot14::f2dot14_bits,
+    F2Dot30::{f2dot30_bits as bits_of, f2dot30_of as of_bits},
+    Fixed::fixed_bits,
+    Operations::IsNarrowed,
+};
 
 use super::FixedI32;
 use crate::font_base::{FixedSize, IdentityEq, Scalar};

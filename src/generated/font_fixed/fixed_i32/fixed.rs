@@ -3,39 +3,20 @@
 //! 16.16 fixed-point numbers.
 
 #[cfg(doc)]
-use crate::definitions::font_base::Bytes::bytes_of;
+use crate::definitions::font_base::{
+    Bytes::{bytes_of, signed_numeral},
+    Wrap::{FitsBits, fits_bits, wrap},
+};
 #[cfg(doc)]
-use crate::definitions::font_base::Bytes::signed_numeral;
+use crate::definitions::font_decimal::Near::{near, up};
 #[cfg(doc)]
-use crate::definitions::font_base::Wrap::FitsBits;
-#[cfg(doc)]
-use crate::definitions::font_base::Wrap::fits_bits;
-#[cfg(doc)]
-use crate::definitions::font_base::Wrap::wrap;
-#[cfg(doc)]
-use crate::definitions::font_decimal::Near::near;
-#[cfg(doc)]
-use crate::definitions::font_decimal::Near::up;
-#[cfg(doc)]
-use crate::definitions::font_fixed::F2Dot14::f2dot14_bits;
-#[cfg(doc)]
-use crate::definitions::font_fixed::F26Dot6::f26dot6_bits;
-#[cfg(doc)]
-use crate::definitions::font_fixed::F48Dot16::f48dot16_bits;
-#[cfg(doc)]
-use crate::definitions::font_fixed::Fixed::fixed_bits as bits_of;
-#[cfg(doc)]
-use crate::definitions::font_fixed::Fixed::fixed_of as of_bits;
-#[cfg(doc)]
-use crate::definitions::font_fixed::Operations::IsMulDiv;
-#[cfg(doc)]
-use crate::definitions::font_fixed::Operations::IsNarrowed;
-#[cfg(doc)]
-use crate::definitions::font_fixed::Operations::IsProduct;
-#[cfg(doc)]
-use crate::definitions::font_fixed::Operations::IsQuotient;
-#[cfg(doc)]
-use crate::definitions::font_fixed::Operations::rounded_mul_div;
+use crate::definitions::font_fixed::{
+    F2Dot14::f2dot14_bits,
+    F26Dot6::f26dot6_bits,
+    F48Dot16::f48dot16_bits,
+    Fixed::{fixed_bits as bits_of, fixed_of as of_bits},
+    Operations::{IsMulDiv, IsNarrowed, IsProduct, IsQuotient, rounded_mul_div},
+};
 
 use super::FixedI32;
 use crate::font_base::{FixedSize, IdentityEq, Scalar};

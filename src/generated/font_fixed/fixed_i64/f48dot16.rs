@@ -3,17 +3,13 @@
 //! 48.16 fixed-point numbers.
 
 #[cfg(doc)]
-use crate::definitions::font_base::Wrap::FitsBits;
-#[cfg(doc)]
-use crate::definitions::font_base::Wrap::wrap;
+use crate::definitions::font_base::Wrap::{FitsBits, wrap};
 #[cfg(doc)]
 use crate::definitions::font_decimal::Near::up;
 #[cfg(doc)]
-use crate::definitions::font_fixed::F48Dot16::f48dot16_bits as bits_of;
-#[cfg(doc)]
-use crate::definitions::font_fixed::Fixed::fixed_bits;
-#[cfg(doc)]
-use crate::definitions::font_fixed::Operations::IsNarrowed;
+use crate::definitions::font_fixed::{
+    F48Dot16::f48dot16_bits as bits_of, Fixed::fixed_bits, Operations::IsNarrowed,
+};
 
 use super::FixedI64;
 use crate::font_fixed::formats::Format;

@@ -3,13 +3,10 @@
 //! Laws of [`F26Dot6`], as contracts of functions.
 
 #[cfg(doc)]
-use crate::definitions::font_fixed::F26Dot6::f26dot6_bits;
-#[cfg(doc)]
-use crate::definitions::font_fixed::NumberLaws::OnThree;
-#[cfg(doc)]
-use crate::definitions::font_fixed::NumberLaws::ProductLaws;
-#[cfg(doc)]
-use crate::definitions::font_fixed::NumberLaws::QuotientLaws;
+use crate::definitions::font_fixed::{
+    F26Dot6::f26dot6_bits,
+    NumberLaws::{OnThree, ProductLaws, QuotientLaws},
+};
 
 use crate::font_fixed::F26Dot6;
 

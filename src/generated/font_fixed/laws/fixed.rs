@@ -3,29 +3,16 @@
 //! Laws of [`Fixed`], as contracts of functions.
 
 #[cfg(doc)]
-use crate::definitions::font_base::Wrap::FitsBits;
-#[cfg(doc)]
-use crate::definitions::font_base::Wrap::wrap;
+use crate::definitions::font_base::Wrap::{FitsBits, wrap};
 #[cfg(doc)]
 use crate::definitions::font_decimal::Near::up;
 #[cfg(doc)]
-use crate::definitions::font_fixed::F48Dot16::f48dot16_bits;
-#[cfg(doc)]
-use crate::definitions::font_fixed::Fixed::fixed_bits;
-#[cfg(doc)]
-use crate::definitions::font_fixed::NumberLaws::OnFour;
-#[cfg(doc)]
-use crate::definitions::font_fixed::NumberLaws::ProductInOneStep;
-#[cfg(doc)]
-use crate::definitions::font_fixed::NumberLaws::ProductLaws;
-#[cfg(doc)]
-use crate::definitions::font_fixed::NumberLaws::QuotientInOneStep;
-#[cfg(doc)]
-use crate::definitions::font_fixed::NumberLaws::QuotientLaws;
-#[cfg(doc)]
-use crate::definitions::font_fixed::Operations::IsMulDiv;
-#[cfg(doc)]
-use crate::definitions::font_fixed::Operations::rounded_mul_div;
+use crate::definitions::font_fixed::{
+    F48Dot16::f48dot16_bits,
+    Fixed::fixed_bits,
+    NumberLaws::{OnFour, ProductInOneStep, ProductLaws, QuotientInOneStep, QuotientLaws},
+    Operations::{IsMulDiv, rounded_mul_div},
+};
 
 use crate::font_fixed::{F48Dot16, Fixed};
 
