@@ -1,6 +1,6 @@
 //! Decimal literals, which the compiler checks.
 
-use crate::{FixedI16, FixedI32, FixedI64, Format};
+use crate::{DecimalFault, FixedI16, FixedI32, FixedI64, Format};
 
 macro_rules! literal {
     ($($Type:ident, $width:literal;)*) => {$(
@@ -31,11 +31,12 @@ macro_rules! literal {
             #[inline]
             #[track_caller]
             pub const fn lit(decimal: &str) -> Self {
-                let value = match Self::from_decimal(decimal) {
-                    Ok(value) => Some(value),
-                    Err(_) => None,
+                let (value, fault) = match Self::from_decimal(decimal) {
+                    Ok(value) => (Some(value), ""),
+                    Err(DecimalFault::Syntax) => (None, "not a decimal number"),
+                    Err(DecimalFault::OutOfRange) => (None, "number out of range"),
                 };
-                value.expect("not a decimal, or out of range")
+                value.expect(fault)
             }
         }
     )*};
