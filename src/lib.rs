@@ -1,5 +1,8 @@
 #![doc = include_str!("README.md")]
 //!
+//! The [`guide`] says which operations wrap, and how to sum deltas, to scale outlines, to read and
+//! write records, and to make types of your own.
+//!
 //! # Types
 //!
 //! | For | Types and functions |
@@ -44,8 +47,6 @@
 //!
 //! The folder `examples` of the repository has a dump of a font's tables and the advances of an
 //! instance.
-//!
-#![doc = include_str!("guide.md")]
 #![no_std]
 #![warn(missing_docs, missing_debug_implementations, missing_copy_implementations)]
 #![warn(clippy::must_use_candidate, clippy::missing_errors_doc, clippy::missing_panics_doc)]
@@ -82,6 +83,12 @@ mod font_ids;
 mod font_tags;
 #[path = "generated/font_types/mod.rs"]
 mod font_types;
+
+#[cfg(doc)]
+/// Overflow, sums of deltas, outlines, records, types of your own, and contracts.
+///
+#[doc = include_str!("guide.md")]
+pub mod guide {}
 
 #[cfg(doc)]
 #[doc = include_str!("contracts.md")]
