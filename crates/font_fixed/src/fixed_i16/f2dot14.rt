@@ -22,8 +22,6 @@ use crate::{F48Dot16, Fixed, fitting_16, nearest_step, nearest_sum};
 /// assert_eq!(number.to_string(), "1.5");
 /// assert_eq!("1.5".parse(), Ok(number));
 /// ```
-///
-/// [`FixedI16`] has its other methods, such as `from_bits` and `round`.
 pub type F2Dot14 = FixedI16<14>;
 
 impl Format<16, 14> for F2Dot14 {

@@ -15,8 +15,6 @@ use crate::formats::Format;
 /// assert_eq!(number.to_string(), "1.5");
 /// assert_eq!("1.5".parse(), Ok(number));
 /// ```
-///
-/// [`FixedI16`] has its other methods, such as `from_bits` and `round`.
 pub type F4Dot12 = FixedI16<12>;
 
 impl Format<16, 12> for F4Dot12 {

@@ -15,8 +15,6 @@ use crate::formats::Format;
 /// assert_eq!(number.to_string(), "1.5");
 /// assert_eq!("1.5".parse(), Ok(number));
 /// ```
-///
-/// [`FixedI16`] has its other methods, such as `from_bits` and `round`.
 pub type F6Dot10 = FixedI16<10>;
 
 impl Format<16, 10> for F6Dot10 {

@@ -25,8 +25,6 @@ use font_base::{FixedSize, IdentityEq, Scalar};
 /// assert_eq!(number.to_string(), "1.5");
 /// assert_eq!("1.5".parse(), Ok(number));
 /// ```
-///
-/// [`FixedI32`] has its other methods, such as `from_bits` and `round`.
 pub type F2Dot30 = FixedI32<30>;
 
 impl Format<32, 30> for F2Dot30 {

@@ -34,8 +34,6 @@ use std::ops::{Div, DivAssign, Mul, MulAssign};
 /// assert_eq!(number.to_string(), "1.5");
 /// assert_eq!("1.5".parse(), Ok(number));
 /// ```
-///
-/// [`FixedI32`] has its other methods, such as `from_bits` and `round`.
 pub type Fixed = FixedI32<16>;
 
 impl Format<32, 16> for Fixed {

@@ -22,8 +22,6 @@ use crate::{Fixed, fitting_32, half_up_64, low_bits, narrow_64};
 /// assert_eq!(number.to_string(), "1.5");
 /// assert_eq!("1.5".parse(), Ok(number));
 /// ```
-///
-/// [`FixedI64`] has its other methods, such as `from_bits` and `round`.
 pub type F48Dot16 = FixedI64<16>;
 
 impl Format<64, 16> for F48Dot16 {

@@ -26,8 +26,6 @@ use crate::font_fixed::{F48Dot16, Fixed, fitting_16, nearest_step, nearest_sum};
 /// assert_eq!("1.5".parse(), Ok(number));
 /// ```
 ///
-/// [`FixedI16`] has its other methods, such as `from_bits` and `round`.
-///
 /// The source and its contracts: `crates/font_fixed/src/fixed_i16/f2dot14.rt`.
 pub type F2Dot14 = FixedI16<14>;
 

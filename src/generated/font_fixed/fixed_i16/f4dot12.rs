@@ -16,8 +16,6 @@ use crate::font_fixed::formats::Format;
 /// assert_eq!("1.5".parse(), Ok(number));
 /// ```
 ///
-/// [`FixedI16`] has its other methods, such as `from_bits` and `round`.
-///
 /// The source and its contracts: `crates/font_fixed/src/fixed_i16/f4dot12.rt`.
 pub type F4Dot12 = FixedI16<12>;
 

@@ -16,8 +16,6 @@ use crate::font_fixed::formats::Format;
 /// assert_eq!("1.5".parse(), Ok(number));
 /// ```
 ///
-/// [`FixedI16`] has its other methods, such as `from_bits` and `round`.
-///
 /// The source and its contracts: `crates/font_fixed/src/fixed_i16/f6dot10.rt`.
 pub type F6Dot10 = FixedI16<10>;
 

@@ -30,8 +30,6 @@ use core::ops::{Div, DivAssign, Mul, MulAssign};
 /// assert_eq!("1.5".parse(), Ok(number));
 /// ```
 ///
-/// [`FixedI32`] has its other methods, such as `from_bits` and `round`.
-///
 /// The source and its contracts: `crates/font_fixed/src/fixed_i32/f26dot6.rt`.
 pub type F26Dot6 = FixedI32<6>;
 

@@ -33,8 +33,6 @@ use crate::font_fixed::{F2Dot14, Fixed, fitting_16, half_up_32};
 /// assert_eq!("1.5".parse(), Ok(number));
 /// ```
 ///
-/// [`FixedI32`] has its other methods, such as `from_bits` and `round`.
-///
 /// The source and its contracts: `crates/font_fixed/src/fixed_i32/f2dot30.rt`.
 pub type F2Dot30 = FixedI32<30>;
 

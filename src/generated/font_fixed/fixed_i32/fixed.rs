@@ -39,8 +39,6 @@ use core::ops::{Div, DivAssign, Mul, MulAssign};
 /// assert_eq!("1.5".parse(), Ok(number));
 /// ```
 ///
-/// [`FixedI32`] has its other methods, such as `from_bits` and `round`.
-///
 /// The source and its contracts: `crates/font_fixed/src/fixed_i32/fixed.rt`.
 pub type Fixed = FixedI32<16>;
 

@@ -26,8 +26,6 @@ use crate::font_fixed::{Fixed, fitting_32, half_up_64, low_bits, narrow_64};
 /// assert_eq!("1.5".parse(), Ok(number));
 /// ```
 ///
-/// [`FixedI64`] has its other methods, such as `from_bits` and `round`.
-///
 /// The source and its contracts: `crates/font_fixed/src/fixed_i64/f48dot16.rt`.
 pub type F48Dot16 = FixedI64<16>;
 
