@@ -181,9 +181,9 @@ class Pages(unittest.TestCase):
         rows = re.findall(r"\n\| \[(\w+)\]\(\S+/specs\) \| (\d+) \|", text("docs/EVIDENCE.md"))
         self.assertEqual({name: int(number) for name, number in rows}, dict(counted))
 
-    def test_signs_of_contracts(self) -> None:
-        """The legend has each sign, each member of a callback and each case of an `Option` or a
-        `Result` that contracts use."""
+    def test_signs_and_words_of_contracts(self) -> None:
+        """The legend has each sign, each member of a callback, each case of an `Option` or a
+        `Result`, and each word of Rattle's std, that contracts and definitions use."""
         shown = [text(path) for path in of(GENERATED, ".rs")]
         clauses = "".join(re.findall(r"/// ```text\n(.*?)/// ```", "".join(shown), re.DOTALL))
         code = re.sub(r"///|//.*|-- .*", "", clauses)
@@ -192,6 +192,12 @@ class Pages(unittest.TestCase):
         page = "".join(text("src/contracts.md").split("```")[::2]).replace("\\|", "|")
         legend = " ".join(re.findall("`([^`]+)`", page))
         self.assertFalse({sign for sign in signs if sign not in legend})
+        sources = [it for it in of("crates/", ".rt", ".antt") if "/src/" in it or "/specs/" in it]
+        of_std = r"\buse Rattle\.std\.specs\b[\w.]*\.\{([^}]*)\}"
+        names = ",".join(re.findall(of_std, "".join(text(path) for path in sources))).split(",")
+        words = {name.split(".")[-1].strip() for name in names} & set(re.findall(r"\w+", code))
+        known = set(re.findall(r"\w+", legend)) | set(re.findall(r"pub mod (\w+)", "".join(shown)))
+        self.assertFalse(words - known)
 
 
 class Package(unittest.TestCase):
