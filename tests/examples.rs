@@ -229,29 +229,48 @@ fn advances_along_two_axes() {
     }
 }
 
-// FreeType 2.12.1 gives these advances, which tests/fonts/made/make.py prints. The product of the
-// rounded scalars of the axes gives none of them.
+// FreeType 2.12.1 gives these advances to fonts of two and of four axes, each with five regions. The
+// product of the rounded scalars of the axes gives neither.
 #[test]
-fn advances_of_made_fonts() {
-    let rows: [(&[i16], u16, u16); 10] = [
-        (&[9877, 9538], 1, 31203),
-        (&[5364, 12886, 12141], 1, 25114),
-        (&[5133, 10545, 6430, 13124], 1, 20036),
-        (&[14334, 8461], 1, 16015),
-        (&[8335, 8302, 7942], 0, 15078),
-        (&[10623, 3568, 12255, 8159], 1, 10961),
-        (&[3918, 2938], 0, 16687),
-        (&[2304, 6814, 12328], 0, 12511),
-        (&[7827, 2698, 14250, 11334], 0, 13639),
-        (&[13325, 2259], 1, 10189),
+fn advances_by_freetype() {
+    let of_two = [
+        [1326, 12623, 13781, 8484, 13268, 15922],
+        [9938, 11732, 15617, 4563, 7157, 9235],
+        [3107, 4579, 8208, 3236, 4815, 10162],
+        [2416, 10819, 15471, 3299, 11593, 14226],
+        [6700, 10361, 15630, 2040, 8535, 14506],
     ];
-    for (number, (at, glyph, wanted)) in rows.into_iter().enumerate() {
-        let path = format!("{}/tests/fonts/made/{number}.ttf", env!("CARGO_MANIFEST_DIR"));
-        let bytes = fs::read(path).unwrap();
-        let font = instance::font::Font::new(&bytes).unwrap();
+    let of_four = [
+        [1853, 2781, 3001, 5540, 10097, 11831, 1170, 6953, 8243, 5189, 12895, 14112],
+        [8789, 12191, 14576, 899, 1177, 11928, 10435, 12452, 15233, 5389, 5814, 13880],
+        [781, 7556, 7737, 5688, 5790, 10654, 4479, 5958, 11786, 11935, 13587, 14602],
+        [11592, 11858, 14606, 5281, 13102, 15119, 8188, 9145, 16056, 11597, 14899, 16320],
+        [11494, 14960, 15106, 7268, 10638, 15945, 5441, 8786, 15720, 9938, 10143, 13325],
+    ];
+    for (at, regions, deltas, base, wanted) in [
+        (
+            &[9877, 9538][..],
+            of_two.as_flattened(),
+            [5764, -1466, 3636, 5514, 4862_i16],
+            23048,
+            31203,
+        ),
+        (
+            &[5133, 10545, 6430, 13124],
+            of_four.as_flattened(),
+            [3210, 2211, 6451, -6766, 4849],
+            19975,
+            20036,
+        ),
+    ] {
         let at: Vec<_> = at.iter().map(|at| F2Dot14::from_bits(*at)).collect();
-        let found = advance(&font, GlyphId16::new(glyph), &at).map(UfWord::to_u16);
-        assert_eq!(found, Ok(wanted), "{number}.ttf");
+        let list = words(&[&[at.len() as u16, 5][..], regions].concat());
+        let data = [&[1, 5, 5, 0, 1, 2, 3, 4][..], &deltas.map(|delta| delta as u16)].concat();
+        let store = words(&[1, 0, 12, 1, 0, 12 + list.len() as u16]);
+        let store = [store, list, words(&data)].concat();
+        let set = DeltaSetIndex { outer: 0, inner: 0 };
+        let found = varied_by(UfWord::new(base), &store, set, &at);
+        assert_eq!(found, Some(UfWord::new(wanted)), "{at:?}");
     }
 }
 
