@@ -19,95 +19,12 @@ static void state(int holds, const char *fact) {
 }
 #define STATE(FACT) state(FACT, #FACT)
 
-/* ---- in C++14, constant expressions: all that neither copies nor calls ---- */
+/* ---- in C++14, two constant expressions; tools/smt/header.py has one of each function ---- */
 
 #if defined(__cplusplus) && __cplusplus >= 201402L
-#define CONSTANT(FACT) static_assert(FACT, #FACT)
-
-static constexpr uint8_t numbers[] = {0, 0, 0, 4, 0xFF, 0xFE, 0xFD, 0xFC, 0, 0, 0, 5};
-static constexpr fty_view all_bytes = {numbers, sizeof numbers}, four = {numbers + 4, 4};
-
-template <typename T> constexpr T read(fty_status (*reader)(fty_view, size_t, T *)) {
-    T value = 0;
-    return reader(all_bytes, 4, &value) == FTY_OK ? value : T(KEPT);
-}
-
-template <typename T> constexpr T taken(fty_status (*taker)(fty_view *, T *)) {
-    fty_view rest = all_bytes;
-    T value = 0;
-    return fty_take(&rest, 4).length == 4 && taker(&rest, &value) == FTY_OK ? value : T(KEPT);
-}
-
-template <typename T> constexpr T rounded(fty_status (*round)(T, uint32_t, T *), T bits) {
-    T value = 0;
-    return round(bits, 14, &value) == FTY_OK ? value : T(KEPT);
-}
-
-template <typename T> constexpr bool writes(fty_status (*writer)(uint8_t *, size_t, size_t, T)) {
-    uint8_t bytes[8] = {0};
-    return writer(bytes, 8, 0, 1) == FTY_OK && bytes[sizeof(T) - 1] == 1;
-}
-
-constexpr bool pokes() {
-    uint8_t bytes[8] = {0}, others[8] = {0};
-    fty_poke_u16(bytes, 0x102);
-    fty_poke_u24(bytes + 2, 0x30405);
-    fty_poke_u32(others, 0x1020304);
-    const bool are_32 = others[0] == 1 && others[3] == 4;
-    fty_poke_u64(others, 0x505);
-    return bytes[0] == 1 && bytes[4] == 5 && are_32 && others[0] == 0 && others[6] == 5;
-}
-
-CONSTANT(fty_absent().bytes == nullptr && fty_part(all_bytes, 4, 4).bytes == numbers + 4);
-CONSTANT(fty_items(all_bytes, 4, 2, 4).length == 8 && fty_from(all_bytes, 4).length == 8);
-CONSTANT(fty_at_offset16(all_bytes, 2).bytes == numbers + 4 && fty_u8(all_bytes, 12) == 0);
-CONSTANT(fty_at_offset24(all_bytes, 1).length == 8 && fty_at_offset32(all_bytes, 0).length == 8);
-CONSTANT(fty_u8(four, 0) == 0xFF && fty_i8(four, 0) == -1 && fty_u16(four, 0) == 0xFFFE);
-CONSTANT(fty_i16(four, 0) == -2 && fty_u24(four, 0) == 0xFFFEFD && fty_i24(four, 0) == -259);
-CONSTANT(fty_u32(four, 0) == 0xFFFEFDFC && fty_i32(four, 0) == -66052);
-CONSTANT(fty_u64(all_bytes, 4) == fty_peek_u64(numbers + 4) && fty_u64(all_bytes, 5) == 0);
-CONSTANT(fty_i64(all_bytes, 4) == fty_peek_i64(numbers + 4) && fty_uint(four, 1, 2) == 0xFEFD);
-CONSTANT(fty_peek_u16(numbers + 4) == 0xFFFE && fty_peek_i16(numbers + 4) == -2);
-CONSTANT(fty_peek_u24(numbers + 4) == 0xFFFEFD && fty_peek_i24(numbers + 4) == -259);
-CONSTANT(fty_peek_u32(numbers + 4) == 0xFFFEFDFC && fty_peek_i32(numbers + 4) == -66052);
-CONSTANT(read(fty_read_u8) == 0xFF && read(fty_read_i8) == -1 && read(fty_read_u16) == 0xFFFE);
-CONSTANT(read(fty_read_i16) == -2 && read(fty_read_u24) == 0xFFFEFD);
-CONSTANT(read(fty_read_i24) == -259 && read(fty_read_u32) == 0xFFFEFDFC);
-CONSTANT(read(fty_read_i32) == -66052 && read(fty_read_i64) == fty_peek_i64(numbers + 4));
-CONSTANT(read(fty_read_u64) == fty_peek_u64(numbers + 4));
-CONSTANT(taken(fty_take_u8) == 0xFF && taken(fty_take_i8) == -1 && taken(fty_take_u16) == 0xFFFE);
-CONSTANT(taken(fty_take_i16) == -2 && taken(fty_take_u24) == 0xFFFEFD);
-CONSTANT(taken(fty_take_i24) == -259 && taken(fty_take_u32) == 0xFFFEFDFC);
-CONSTANT(taken(fty_take_i32) == -66052 && taken(fty_take_i64) == fty_peek_i64(numbers + 4));
-CONSTANT(taken(fty_take_u64) == fty_peek_u64(numbers + 4));
-CONSTANT(rounded<int16_t>(fty_round_i16, 24575) == 16384);
-CONSTANT(rounded(fty_round_i32, 24576) == 32768 && rounded<int64_t>(fty_round_i64, -1) == 0);
-CONSTANT(fty_fixed_floor(-1) == -65536 && fty_fixed_ceil(1) == 65536);
-CONSTANT(fty_fixed_round(-32768) == 0 && fty_fixed_round_away(-32768) == -65536);
-CONSTANT(fty_f26dot6_floor(-1) == -64 && fty_f26dot6_ceil(1) == 64 && fty_f26dot6_round(32) == 64);
-CONSTANT(fty_fixed_to_i32(98304) == 2 && fty_fixed_to_f26dot6(98304) == 96);
-CONSTANT(fty_fixed_to_f2dot14(98304) == 24576 && fty_f26dot6_to_i32(96) == 2);
-CONSTANT(fty_f48dot16_to_i64(98304) == 2 && fty_f2dot30_to_fixed(1 << 29) == 32768);
-CONSTANT(fty_f2dot30_to_f2dot14(1 << 29) == 8192 && fty_fixed_mul(98304, -98304) == -147456);
-CONSTANT(fty_f26dot6_mul(96, 96) == 144 && fty_mul_div_i64(INT32_MIN, INT32_MIN, 1) == 1LL << 62);
-CONSTANT(fty_fixed_add(INT32_MAX, 1) == INT32_MIN && fty_fixed_sub(1, 2) == -1);
-CONSTANT(fty_fixed_from_i32(2) == 131072 && fty_delta_set_length(1, 2) == 3);
-CONSTANT(fty_status_text(FTY_OK)[0] == 'd' && pokes());
-CONSTANT(writes(fty_write_u8) && writes(fty_write_u16) && writes(fty_write_u64));
-
-constexpr bool others() {
-    uint8_t bytes[8] = {0};
-    uint32_t value = 0;
-    int32_t fixed = 0;
-    fty_view rest = four;
-    return fty_take_uint(&rest, 3, &value) == FTY_OK && value == 0xFFFEFD && rest.length == 1
-           && fty_write_u24(bytes, 8, 0, 0x102) == FTY_OK
-           && fty_write_u32(bytes, 8, 4, 3) == FTY_OK
-           && fty_write_uint(bytes, 8, 3, 1, 9) == FTY_OK && bytes[2] == 2 && bytes[7] == 3
-           && fty_read_uint(all_bytes, 4, 2, &value) == FTY_OK && value == 0xFFFE
-           && fty_f48dot16_to_fixed(7, &fixed) == FTY_OK && fixed == 7;
-}
-CONSTANT(others());
+static constexpr uint8_t numbers[] = {0, 0, 0, 4, 0xFF, 0xFE, 0xFD, 0xFC};
+static_assert(fty_i24(fty_at_offset32({numbers, sizeof numbers}, 0), 0) == -259, "a field");
+static_assert(fty_fixed_mul(98304, -98304) == -147456 && fty_f26dot6_round(32) == 64, "numbers");
 #endif
 
 /* ---- values from outside: a field of each kind, read and written, and rounded numbers ---- */

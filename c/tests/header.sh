@@ -1,7 +1,7 @@
 # The header: its names, what it promises beyond values, its proof, and that each caller can include it.
 
-# The names that it declares, the libraries export and the table calls; and those that it has in C,
-# which header.c calls. Two are both: table.c declares these exports itself.
+# The names that it declares, the libraries export and the table calls; and those that it has in C.
+# Two are both: table.c declares these exports itself.
 text=$(c++ -std=c++11 -x c++ -E -P include/font_types.h | tr '\n' ' ')
 functions=$(grep -oE '\bfty_[a-z0-9_]+\([^()]*\) noexcept *[;{]' <<<"$text" | grep -v '^fty_api_')
 names() { grep -o '\bfty_[a-z0-9_]*' | sort -u; }
@@ -36,18 +36,12 @@ in_rust=$(cat src/generated/font_c/*.rs | tr -d '\n' | grep -oE '"C" fn fty_[^{]
     s/\bi(8|16|32|64)\b/int\1_t/g; s/usize/size_t/g; s/([(,]) +/\1/g' | sort)
 diff <(echo "$in_c") <(echo "$in_rust")
 
-calls=$(c++ -std=c++14 -x c++ -E -Iinclude tests/header.c |
-    awk '/^# /{own = $3 == "\"tests/header.c\""} own' | names)
-[[ -z $(comm -23 <(echo "$inline") <(sort <<<"$calls"$'\n'"$calling")) ]]
-
-# Those that C++14 evaluates are in header.c's constant expressions.
+# C++14 evaluates all that neither copies nor calls.
 constants=$(c++ -std=c++14 -x c++ -E -P include/font_types.h | tr '\n' ' ' |
     grep -oE '\bconstexpr [^;{}]*\) noexcept *\{' | grep -oE '\bfty_[a-z0-9_]+\(' |
     grep -v '^fty_api_' | names)
 run_only=$(echo "$calling"$'\n'fty_write_bytes | sort)
 [[ $constants == $(comm -23 <(echo "$inline") <(echo "$run_only")) ]]
-[[ -z $(comm -23 <(echo "$constants") \
-    <(sed -n '/ in C++14, constant/,/^#endif/p' tests/header.c | names)) ]]
 
 # Each function is noexcept, and each but fty_matrix_images and fty_poke_* warns of a result that
 # is ignored.
@@ -88,6 +82,14 @@ if [[ -z ${BUILT-} && -n $solver ]] && command -v clang-22 >/dev/null; then
     export solver tools
     export -f proves
     "$solver" "$tools/smt/header.py" --list | xargs -P "$(nproc)" -I{} bash -o pipefail -c 'proves {}'
+    # In constant expressions, each returns and writes the same.
+    "$solver" "$tools/smt/header.py" --constants "$work/constants.cpp" include
+    for compiler in g++ clang++; do
+        if command -v "$compiler" >/dev/null; then
+            "$compiler" -std=gnu++14 -w -Iinclude "$work/constants.cpp" -o "$work/constants"
+            "$work/constants"
+        fi
+    done
     # What other compilers make of it returns and writes the same as what is proved, of the random
     # arguments of each row.
     "$solver" "$tools/smt/header.py" --program "$work/rows.c" include

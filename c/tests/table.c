@@ -2,7 +2,7 @@
  * Calls each export, in C and in C++: that it is what the header declares, with rows for what its
  * comment says. Rattle proves what the exports return, and header.sh compares their types with
  * those of the Rust. Expected values are exact: rational arithmetic, rounded and wrapped as
- * font_types.h says. header.c calls all inline functions.
+ * font_types.h says. tools/smt/header.py has rows of all inline functions.
  */
 /* The functions of the header that the library exports too get other names here. */
 #define fty_fixed_mul inline_fixed_mul

@@ -1,5 +1,6 @@
-"""The code of all rows of the C header, and a program of it."""
+"""The code of all rows of the C header, and two programs of it."""
 
+import re
 from pathlib import Path
 
 import c_views as c_views
@@ -9,12 +10,15 @@ from c_row import in_c
 from cases import Case
 
 HEAD = '#include "font_types.h"\n'
-WRAPPER = """{0} {1}({2}) {{ {3}return {4}; }}
-void call_{1}(const uint64_t *numbers, uint64_t *result) {{
+FUNCTION = "{0} {1}({2}) {{ {3}return {4}; }}\n"
+WRAPPER = (
+    FUNCTION
+    + """void call_{1}(const uint64_t *numbers, uint64_t *result) {{
     result[0] = (uint64_t){1}({5});
     result[1] = 0;
 }}
 """
+)
 
 
 def wrapper(case: Case) -> str:
@@ -54,3 +58,41 @@ def program() -> str:
 
     table = (f'    {{"{it.name}", "{given(it)}", call_{it.symbol}}},\n' for it in ROWS)
     return CODE + TABLE % "".join(table) + Path(__file__).with_name("rows.c").read_text()
+
+
+# The same row in a constant expression and when the program runs, of arguments that `k` gives.
+CONSTANT = """constexpr {0}constexpr uint64_t fold_{1}() {{
+    uint64_t sum = 0;
+    for (uint64_t k = 0; k < 64; k++) {{
+        uint8_t bytes[9] = {{1, 2, 253, 4, 5, 6, 7, 8, 9}}, *const text = bytes;
+        sum = sum * 31 + static_cast<uint64_t>({1}({2}));
+        for (const uint8_t byte : bytes)
+            sum = sum * 31 + byte;
+    }}
+    return sum;
+}}
+constexpr uint64_t constant_{1} = fold_{1}();
+"""
+# What no constant expression has: a pointer as an integer, or as one to another type.
+CASTS = re.compile(r"uintptr_t|\*\)&")
+
+
+def constants(run_only: set[str]) -> tuple[str, set[str]]:
+    """Returns a program of C++14 whose status is 0 if rows are the same when it runs as in constant
+    expressions, and the functions of these rows: none of those that only run."""
+    code, tests, called = HEAD + "#define _Bool bool\n", [], set()
+    for it in ROWS:
+        names = set(re.findall(r"fty_\w+", it.body))
+        if names & run_only or CASTS.search(it.body):
+            continue
+        # C++ leaves an enum undefined that has more bits than its values.
+        number = "k / 4" if "(fty_status)" in it.body else "k % 3 ? k / 3 : ~k / (k + 1)"
+        given = (
+            "text, k % 10" if type_ in ("bytes", "room") else f"({in_c(type_)})({number})"
+            for _, type_ in it.parameters
+        )
+        function = re.sub(r"(\w+_t it);", r"\1 = 0;", wrapper(it).split("void call_")[0])
+        code += CONSTANT.format(function, it.symbol, ", ".join(given))
+        tests.append(f"fold_{it.symbol}() != constant_{it.symbol}")
+        called |= names
+    return f"{code}int main() {{ return {' || '.join(tests)}; }}\n", called

@@ -7,7 +7,8 @@ and `c_views.py` have the rows.
 `clang-22` has the LLVM of rustc 1.95. `FOLDER` has the header. Each build is proved, or those that
 are named, of which `--list` prints the names. `--program FILE` writes a program in C instead, which
 prints for each row a number of what the row returns and writes for random arguments: whichever
-compiler makes it, it prints the same, and for sizes of 32 bits whichever processor runs it."""
+compiler makes it, it prints the same, and for sizes of 32 bits whichever processor runs it.
+`--constants FILE` writes one in C++14, which compares rows with themselves in constant expressions."""
 
 import argparse
 import ctypes
@@ -21,7 +22,7 @@ from pathlib import Path
 
 import z3
 
-from c_program import CODE, ROWS, program
+from c_program import CODE, ROWS, constants, program
 from ir import Module
 from proof import Proof, Unknown, fault_of
 
@@ -83,19 +84,26 @@ def main() -> int:
     parser.add_argument("--builds", default=",".join(BUILDS))
     parser.add_argument("--list", action="store_true")
     parser.add_argument("--program", type=Path)
+    parser.add_argument("--constants", type=Path)
     options = parser.parse_args()
     sys.setrecursionlimit(20000)
     if options.list:
         print("\n".join(BUILDS))
         return 0
     text = (options.folder / "font_types.h").read_text()
-    functions = set(re.findall(r"^FTY_API_(?:INLINE|RUN|STATIC) .*\b(fty_\w+)\(", text, re.M))
+    functions = re.findall(r"^FTY_API_(INLINE|RUN|STATIC) .*\b(fty_(?!api_)\w+)\(", text, re.M)
     called = set(re.findall(r"fty_\w+", " ".join(it.body for it in ROWS)))
-    if left := {it for it in functions - called if not it.startswith("fty_api_")}:
+    if options.constants:
+        run_only = {name for kind, name in functions if kind == "RUN"}
+        code, called = constants(run_only)
+        options.constants.write_text(code)
+        called |= run_only
+    if left := {name for _, name in functions} - called:
         print(f"in no row: {' '.join(sorted(left))}")
         return 1
     if options.program:
         options.program.write_text(program())
+    if options.program or options.constants:
         return 0
     builds = options.builds.split(",")
     return int(sum(prove(options.folder, it, options.only) for it in builds) > 0)
