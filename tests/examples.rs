@@ -131,7 +131,6 @@ a: no glyph
     }
 }
 
-// `c/check` reads mutated fonts by `instance`.
 #[test]
 fn dump_of_mutated_fonts() {
     let font = font(hvar());

@@ -1,5 +1,4 @@
 //! A font, built table by table.
-#![allow(dead_code)]
 
 use std::collections::BTreeMap;
 
@@ -47,12 +46,6 @@ pub fn hvar() -> Vec<u8> {
     table.extend([0, 100, -30i8 as u8, 0, 0, 0, 0, 0]);
     table.extend([0, 0, 0, 2, 0, 1]);
     table
-}
-
-/// One delta set of a long word and a word, and a map of format 1.
-pub fn long_hvar() -> Vec<u8> {
-    let data = [1, 0x8001, 2, 0, 1, 0, 60000, -300i16 as u16];
-    words(&[variations(64, &data), vec![0x0100, 0, 2, 0]].concat())
 }
 
 /// A name for Windows, and for Unicode its first unit.
