@@ -79,9 +79,11 @@ def calls() -> dict[tuple[str, int], set[int]]:
     types."""
     show = "import reach, pathlib; print(reach.called(pathlib.Path('../..')))"
     for python in (sys.executable, "/usr/bin/python3"):
-        command = [python, "-B", "-c", show]
-        shown = subprocess.run(command, cwd=ROOT / "tools/smt", capture_output=True, text=True)
-        if shown.returncode == 0:
+        if subprocess.run([python, "-c", "import z3"], capture_output=True).returncode == 0:
+            command = [python, "-B", "-c", show]
+            shown = subprocess.run(command, cwd=ROOT / "tools/smt", capture_output=True, text=True)
+            if shown.returncode != 0:
+                raise AssertionError(f"the rows of tools/smt do not compile:\n{shown.stderr}")
             found = collections.defaultdict[tuple[str, int], set[int]](set)
             for _, called in ast.literal_eval(shown.stdout):
                 for file, line, bits in called:
