@@ -5,25 +5,38 @@
 text=$(c++ -std=c++11 -x c++ -E -P include/font_types.h | tr '\n' ' ')
 functions=$(grep -oE '\bfty_[a-z0-9_]+\([^()]*\) noexcept *[;{]' <<<"$text" | grep -v '^fty_api_')
 names() { grep -o '\bfty_[a-z0-9_]*' | sort -u; }
+# Whether two lists have the same names. Prints what only the first (<) or the second (>) has.
+same() {
+    local differ
+    if ! differ=$(diff <(echo "$2") <(echo "$4")); then
+        printf '< only %s, > only %s:\n%s\n' "$1" "$3" "$(grep '^[<>]' <<<"$differ")"
+        false
+    fi
+}
 declared=$(grep ';$' <<<"$functions" | sed 's/(.*//' | names)
 inline=$(grep '{$' <<<"$functions" | sed 's/(.*//' | names)
 both=$'fty_f26dot6_mul\nfty_fixed_mul'
 [[ $(comm -12 <(echo "$both") <(echo "$inline")) == "$both" ]]
 exports=$(sort -u <<<"$declared"$'\n'"$both")
-[[ $(nm --defined-only "$archive" 2>/dev/null | grep ' T ' | names) == "$exports" ]]
+declares='in font_types.h'
+archived=$(nm --defined-only "$archive" 2>/dev/null | grep ' T ' | names)
+same 'in the archive' "$archived" "$declares" "$exports"
 exported=$(nm -D --defined-only "$root/lib/libfont_types.so" | grep -v " A FONT_TYPES_$version\$")
 fails grep -v "@@FONT_TYPES_$version\$" <<<"$exported"
-[[ $(names <<<"$exported") == "$exports" ]]
+same 'in the library' "$(names <<<"$exported")" "$declares" "$exports"
 cc -std=c99 -Iinclude -c tests/table.c -o "$work/table.o"
-[[ $(nm -u "$work/table.o" | names) == "$exports" ]]
+same 'called by table.c' "$(nm -u "$work/table.o" | names)" "$declares" "$exports"
 # The head of the header lists each, as in C or as a call of the library.
 listed() {
     eval "printf '%s\n' $(sed -n "/^ \* $1/,/^ \* $2/p" include/font_types.h |
         grep -o 'fty_[a-z0-9_{},]*' | tr '\n' ' ')" | sort -u
 }
 calling=$(printf '%s\n' fty_{fixed,f2dot14,f26dot6}_{parse,format,format_padded} | sort)
-[[ $(listed 'In C, in' 'Calls of') == $(comm -23 <(echo "$inline") <(echo "$calling")) ]]
-[[ $(listed 'Calls of' 'Each function') == $(sort <<<"$declared"$'\n'"$calling") ]]
+head='at the head of font_types.h'
+same "$head, \"In C\"" "$(listed 'In C, in' 'Calls of')" \
+    "$declares" "$(comm -23 <(echo "$inline") <(echo "$calling"))"
+same "$head, \"Calls\"" "$(listed 'Calls of' 'Each function')" \
+    "$declares" "$(sort <<<"$declared"$'\n'"$calling")"
 # Their types are those of the Rust that is compiled. An enum is returned as 32 bits.
 in_c=$(grep -oE '[a-z0-9_]+ fty_[a-z0-9_]+\([^()]*\) noexcept *[;{]' <<<"$text" |
     grep -E ";\$|($(paste -sd '|' <<<"$both"))\(" | sed -E '
@@ -41,7 +54,8 @@ constants=$(c++ -std=c++14 -x c++ -E -P include/font_types.h | tr '\n' ' ' |
     grep -oE '\bconstexpr [^;{}]*\) noexcept *\{' | grep -oE '\bfty_[a-z0-9_]+\(' |
     grep -v '^fty_api_' | names)
 run_only=$(echo "$calling"$'\n'fty_write_bytes | sort)
-[[ $constants == $(comm -23 <(echo "$inline") <(echo "$run_only")) ]]
+same 'constexpr in font_types.h' "$constants" \
+    'in C in font_types.h' "$(comm -23 <(echo "$inline") <(echo "$run_only"))"
 
 # Each function is noexcept, and each but fty_matrix_images and fty_poke_* warns of a result that
 # is ignored.
