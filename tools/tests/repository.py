@@ -129,23 +129,25 @@ class Pages(unittest.TestCase):
         }
         # The documentation of each type names its file.
         pages = [path for path in of("", ".md") if path != "CHANGELOG.md"]
+        wrong = []
         for page in pages + of(GENERATED, ".rs"):
-            wrong, shown = [], text(page)
+            shown = text(page)
             for name in quoted(shown, ":"):
                 parts = name.split("::")
                 # A form that a page names is in its module of a caller.
                 in_caller = len(parts) == 1 or parts[1] in callers.get(parts[0], parts)
                 if ("::" in name or "_" in name) and not (set(parts) <= source and in_caller):
-                    wrong.append(name)
+                    wrong.append(f"{page}: no code has the name {name}")
             for path in quoted(shown, "/."):
                 is_any = any(not part or part.isupper() for part in re.split("[/.]", path))
                 is_there = path in FILES or of("", "/" + path)
                 if path.endswith((".rt", ".antt", ".rs")) and not is_any and not is_there:
-                    wrong.append(path)
+                    wrong.append(f"{page}: no file has the name {path}")
             for link in re.findall(r"\]\(([^)#]+)", shown) if page in pages else ():
                 if ":" not in link and not (ROOT / page).parent.joinpath(link).exists():
-                    wrong.append(link)
-            self.assertFalse(wrong, page)
+                    wrong.append(f"{page}: no file is where the link leads, {link}")
+        if wrong:
+            self.fail("\n".join(["", *wrong]))
 
     def test_shown_code(self) -> None:
         # README shows a contract and a definition, CALLING a file.
@@ -179,7 +181,12 @@ class Pages(unittest.TestCase):
                 counted[of_crate[1]] += text(path).count("\n")
         del counted["callers"], counted["font_fixed2"]
         rows = re.findall(r"\n\| \[(\w+)\]\(\S+/specs\) \| (\d+) \|", text("docs/EVIDENCE.md"))
-        self.assertEqual({name: int(number) for name, number in rows}, dict(counted))
+        self.assertEqual({name for name, _ in rows}, counted.keys())
+        wrong = [
+            f"{name}: {n}" for name, n in sorted(counted.items()) if (name, str(n)) not in rows
+        ]
+        if wrong:
+            self.fail("\n".join(["write in the first table of docs/EVIDENCE.md:", *wrong]))
 
     def test_signs_and_words_of_contracts(self) -> None:
         """The legend has each sign, each member of a callback, each case of an `Option` or a
@@ -257,10 +264,14 @@ class Package(unittest.TestCase):
 
 class Census(unittest.TestCase):
     def test_none_is_lost(self) -> None:
+        wrong = []
         for start, ending, what, number in COUNTS:
             contents = [(ROOT / path).read_bytes() for path in of(start, ending)]
             found = sum(it.count(what.encode()) for it in contents)
-            self.assertEqual(found, number, f"{what!r} in {start}")
+            if found != number:
+                wrong.append(f'("{start}", "{ending}", {what!r}, {number}): there are {found}')
+        if wrong:
+            self.fail("\n".join(["if you meant to add or remove them, change COUNTS:", *wrong]))
 
     def test_items(self) -> None:
         for path, item in ITEMS:
