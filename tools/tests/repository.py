@@ -235,24 +235,41 @@ class Package(unittest.TestCase):
                 self.assertTrue(link.startswith("https:"), f"{page}: {link[:40]}")
 
     def test_versions(self) -> None:
-        def version(path: str, before: str) -> str:
-            return text(path).split(before, 1)[1].split('"')[0]
-
-        header = version("c/include/font_types.h", '#define FTY_VERSION "')
-        tomls = "Cargo.toml c/Cargo.toml compare/Cargo.toml variations/Cargo.toml"
-        for name in f"{tomls} Cargo.lock c/Cargo.lock variations/Cargo.lock".split():
-            self.assertEqual(version(name, '\nversion = "'), header, name)
-            self.assertTrue(name.endswith("lock") or "\npublish = false\n" in text(name), name)
-        major, minor, patch = map(int, header.split("."))
-        for path, shown in [
+        """All places have the version of `Cargo.toml`, and no package is for a registry."""
+        tomls = "Cargo.toml c/Cargo.toml compare/Cargo.toml variations/Cargo.toml".split()
+        own = {path: re.findall(r'^version = "(.*)"$', text(path), re.M) for path in tomls}
+        version = own["Cargo.toml"][0]
+        major, minor, patch = map(int, version.split("."))
+        number = f"{minor:02X}{patch:02X}"
+        for path in "Cargo.lock c/Cargo.lock variations/Cargo.lock".split():
+            own[path] = re.findall(r'^version = "(.*)"$', text(path), re.M)
+        wrong = [f'{path}: version = "{version}"' for path in own if set(own[path]) != {version}]
+        for path, *texts in [
+            ("variations/Cargo.toml", f'path = "..", version = "{version}"'),
             ("c/font_types.map", f"FONT_TYPES_{major}.{minor} {{"),
-            ("c/check", f"\nversion={major}.{minor}\n"),
-            ("c/tests/table.c", f'"{header}"'),
-            ("c/include/font_types.h", f"VERSION_NUMBER 0x{major:02X}{minor:02X}{patch:02X}\n"),
+            ("c/check", f"version={major}.{minor}\n"),
+            (
+                "c/tests/table.c",
+                f'FTY_VERSION, "{version}"',
+                f"FTY_VERSION_NUMBER == 0x{major:02X}{number}",
+            ),
+            (
+                "c/include/font_types.h",
+                f'FTY_VERSION "{version}"',
+                f"FTY_VERSION_NUMBER 0x{major:02X}{number}\n",
+            ),
             ("c/README.md", f"`FONT_TYPES_{major}.{minor}`"),
-            ("crates/font_c/src/version.rt", f"\n    0x{major:02X}_{minor:02X}{patch:02X}\n"),
+            (
+                "crates/font_c/src/version.rt",
+                f"ensures {{ result ≡ 0x{major:02X}_{number} }}",
+                f"\n    0x{major:02X}_{number}\n",
+            ),
         ]:
-            self.assertIn(shown, text(path), path)
+            wrong += [f"{path}: {it.strip()}" for it in texts if it not in text(path)]
+        if wrong:
+            self.fail("\n".join(["write, as the version of Cargo.toml:", *wrong]))
+        for path in tomls:
+            self.assertIn("\npublish = false\n", text(path), path)
 
     def test_names_on_its_first_page(self) -> None:
         page, exports = text("src/lib.rs"), text("src/generated/font_types/mod.rs")
