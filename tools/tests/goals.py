@@ -43,6 +43,7 @@ class Goals(unittest.TestCase):
         source = (ROOT / "crates/font_tags/src/tag.rt").read_text()
         for name, told, is_other in ROWS:
             for word, code in ("OWN", "fn validate("), ("OTHER", "fn as_bytes("):
+                self.assertTrue(code in source, f"tag.rt has no `{code}`, which this test names")
                 told = told.replace(word, str(1 + source[: source.index(code)].count("\n")))
             status, wrong = misnamed(f"rt: must-fail {name}: refused, as it must be: {told}\n")
             found = any(it.startswith(name) for it in wrong)

@@ -46,8 +46,10 @@ class Requirements(unittest.TestCase):
                     for line, answer in zip(shown[::2], shown[1::2], strict=True):
                         self.assertEqual(stored.get(line.encode()), answer.encode(), line)
                 for literal in shown if label and label != "stdin" else ():
-                    self.assertTrue(has(codes[label], in_one_line(literal)), f"{label}: {literal}")
-        self.assertEqual((rows, literals), (234, 699))
+                    told = f"requirements.md cites what {PATHS[label]} does not have: {literal}"
+                    self.assertTrue(has(codes[label], in_one_line(literal)), told)
+        counts = "rows and literals of requirements.md. If you added some on purpose, change this"
+        self.assertEqual((rows, literals), (234, 699), counts)
         # Those are required that say so, and each stands where the page says.
         says = "\n# required by tools/tests/requirements.md\n"
         edits = {edit: edit.read_text() for edit in ROOT.glob("crates/*/must-fail/*.edit")}
