@@ -108,7 +108,10 @@ class SecondProof(unittest.TestCase):
         sources = (it.read_text() for it in EXPORTS.rglob("*.rs"))
         self.assertEqual(len(every), sum(it.count("#[unsafe(no_mangle)]") for it in sources))
         without = {name: parameters for name, parameters, at in every if at not in known}
-        page = (ROOT / "docs/EVIDENCE.md").read_text().split("does not show:")[1].split(";")[0]
-        self.assertEqual(sorted(without), sorted(re.findall(r"`(fty_\w+)`", page)))
+        page = (ROOT / "docs/EVIDENCE.md").read_text()
+        count = f"{len(every) - len(without)} of the {len(every)} exports for C"
+        self.assertTrue(f"- {count}" in page, f"write in docs/EVIDENCE.md: {count}")
+        listed = page.split("does not show:")[1].split(";")[0]
+        self.assertEqual(sorted(without), sorted(re.findall(r"`(fty_\w+)`", listed)))
         for name, parameters in without.items():
             self.assertRegex(parameters, r": \*(const|mut) |^\(\)$", name)
