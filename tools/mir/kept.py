@@ -23,11 +23,16 @@ def left(root: Path, crates: list[str]) -> dict[str, Json]:
     sys.path.append(str(Path(shutil.which("rt") or "rt").resolve().parent))
     import rtlib  # of the kit
 
-    for folder in (root / f"crates/{it}" for it in crates):
+    others = []
+    for crate in sorted(crates):
+        folder = root / "crates" / crate
         stamp = folder / "out/rlib/stamp"
         now = rtlib.Crate(str(folder), str(root), {}).stamp
         if stamp.exists() and stamp.read_text() != now():
-            raise ValueError(f"what `rt` left in {folder} is of another tree: run `rt lib` there")
+            others.append(crate)
+    if others:
+        told = f"what `rt` left of {', '.join(others)} is of another tree: run `rt lib` in "
+        raise SystemExit(f"{told}font_lines, variations and font_c, which builds what they use")
     return {it: json.loads(left_of(root, it).read_text()) for it in sorted(crates)}
 
 
