@@ -159,6 +159,11 @@ class Pages(unittest.TestCase):
             self.assertTrue(squeezed(block) in source, block)
         file, after = text("docs/CALLING.md").split("](../crates/callers/", 1)[1].split(")", 1)
         self.assertEqual(after.split("```")[1].split("\n", 1)[1], text(f"crates/callers/{file}"))
+        # FONTVAL has each message of the program.
+        messages = re.findall(r'codes "(fontval: .*?)"', text("crates/font_lines/specs/Serve.antt"))
+        page = " ".join(text("docs/FONTVAL.md").split())
+        self.assertEqual([it for it in messages if f"`{it}`" not in page], [], "docs/FONTVAL.md")
+        self.assertEqual(len(messages), 3)
 
     def test_aliases(self) -> None:
         """The guide's table has the names of other libraries that the search of the documentation
