@@ -14,8 +14,11 @@ ROOT = pathlib.Path(__file__).resolve().parents[2]
 SOURCE = ROOT / "src/generated"
 EXPORTS = ROOT / "c/src/generated"
 
-# Of a type with several formats, the fraction bits of each.
-FORMATS = {"FixedI16": {14, 12, 10}, "FixedI32": {16, 6, 30}, "FixedI64": {16}}
+# Of a type with formats, the fraction bits of each.
+FORMATS = collections.defaultdict[str, set[int]](set)
+for path in SOURCE.rglob("*.rs"):
+    for name, bits in re.findall(r"^pub type \w+ = (\w+)<(\d+)>;$", path.read_text(), re.M):
+        FORMATS[name].add(int(bits))
 
 # Why a function is in no row: the first rule whose pattern its file, head and signature have.
 SLICES = r"&('a )?(mut )?(\[[^;\]]*\]|str)|Shortest|FromStr|Pad\b|Predefined|ScalarArray|TableData"
