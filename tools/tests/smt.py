@@ -3,6 +3,7 @@ IR of the row shows, or it is outside by one of six rules. Nothing is proved her
 
 import ast
 import collections
+import functools
 import pathlib
 import re
 import subprocess
@@ -77,6 +78,7 @@ def exports() -> Iterator[tuple[str, str, tuple[str, int]]]:
             yield it[1], it[2], (str(path.relative_to(EXPORTS)), line)
 
 
+@functools.cache
 def calls() -> dict[tuple[str, int], set[int]]:
     """Returns the functions that rows call, by file and line, with the fraction bits of their
     types."""
