@@ -27,7 +27,7 @@ with = @missing=$$(for it in $(1); do command -v $$it >/dev/null || echo $$it; d
 with += ; [[ -z $$missing ]] || { echo "left out: $@, which needs $$missing"; exit 0; }
 
 rust:
-	$(call with,cargo cc)
+	$(call with,cargo cc rustdoc)
 	cargo test --quiet
 	cargo test --quiet --release --test program --test original --test preconditions
 	cargo test --quiet --manifest-path variations/Cargo.toml
@@ -70,7 +70,7 @@ smt smt-checked:
 	$(PYTHON) tools/smt $(filter --checked,$(@:smt%=-%)) | sed '/ proved$$/d'
 
 mir:
-	$(call with,python3 $(if $(IS_RUSTC),,rustc-$(RUSTC)))
+	$(call with,cargo cc git python3 $(if $(IS_RUSTC),,rustc-$(RUSTC)))
 	$(MIR)
 
 c:
@@ -82,12 +82,12 @@ fetched = cargo fetch --quiet --manifest-path compare/Cargo.toml $(FETCHED) ||
 fetched += { echo "left out: $@, which needs font-types, which cargo cannot fetch"; exit 0; }
 
 compare:
-	$(call with,cargo cc)
+	$(call with,cargo cc rustdoc)
 	$(fetched)
 	cargo test --quiet --release --manifest-path compare/Cargo.toml $(FETCHED)
 
 # The tests that `compare` runs call each function of font-types.
 compared:
-	$(call with,cargo cc python3 objdump c++filt $(if $(IS_RUSTC),,rustc-$(RUSTC)))
+	$(call with,cargo cc python3 rustdoc objdump c++filt $(if $(IS_RUSTC),,rustc-$(RUSTC)))
 	$(fetched)
 	compare/compared $(FETCHED)

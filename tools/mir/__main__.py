@@ -1,7 +1,8 @@
 """Compares the MIR that was proved with the MIR that rustc compiles from the erased Rust.
 
 `python3 tools/mir [FOLDER]`: of this repository or of a copy, with the MIR that `rt` left in
-`crates/*/out/rlib`, or, if it left none, with a copy, for which cargo, rustc and python3 suffice.
+`crates/*/out/rlib`, or, if it left none, with a copy, for which cargo, rustc, a C compiler, git and
+python3 suffice.
 Each function with code on either side has the same calls in the same order, operands, stores and
 result, under the same conditions, on every path; and Rust computes nothing that may panic and that
 Rattle does not compute and prove. `std.py` lists what has another form on either side, `names.py`
