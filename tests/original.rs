@@ -1,4 +1,5 @@
-//! Tests of `font-types` over whole ranges of values, under the names that they have there.
+//! Tests of `font-types` over all values of 16 and 24 bits, and a sample of those of 32, under the
+//! names that they have there.
 
 use font_types_proved::*;
 use std::fmt::Display;
