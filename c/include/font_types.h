@@ -33,16 +33,17 @@
  *
  * Each function that the library exports has a contract that is proved; its comment states it.
  * What the functions in C return and write, and that they touch nothing else, is proved for every
- * argument, of what Clang makes of them for a size_t of 64 bits and of 32. That other compilers
- * read them so is tested.
+ * argument, of what Clang 22 makes of them for a size_t of 64 bits and of 32. That GCC and another
+ * Clang make the same of them is tested.
  *
  * A number is a raw value with a number of fraction bits f: the int32_t 98304 is
  * 98304 / 2^16 = 1.5 in 16.16, for which f is 16. f is from 6 to 30, and at most the
  * width less 2: up to 14 of an int16_t, and up to 30 of an int32_t or int64_t.
  *
  * "Wraps" means that the result is taken modulo 2^w, in two's complement of the w bits
- * of its type, or as many as the comment says. "Half up" rounds ties toward positive
- * infinity; "half away from zero" to the greater magnitude.
+ * of its type, or as many as the comment says. (Functions in C add as unsigned, which
+ * `-fsanitize=integer` of Clang reports for negative numbers, even if the result does not wrap.)
+ * "Half up" rounds ties toward positive infinity; "half away from zero" to the greater magnitude.
  *
  * A function that can fail returns a fty_status, and stores its result where its last
  * argument points; what writes text stores the text at `out`, and its length there; a
@@ -913,10 +914,7 @@ FTY_API_INLINE int32_t fty_fixed_sub(int32_t x, int32_t y) FTY_API_NOEXCEPT {
     return FTY_API_AS(int32_t, FTY_API_AS(uint32_t, x) - FTY_API_AS(uint32_t, y));
 }
 
-/**
- * An integer, as font units, to 16.16, x * 65536; wraps unless x is from -32768 to 32767. (By
- * intent: `-fsanitize=integer` of Clang reports it.)
- */
+/** An integer, as font units, to 16.16, x * 65536; wraps unless x is from -32768 to 32767. */
 FTY_API_INLINE int32_t fty_fixed_from_i32(int32_t x) FTY_API_NOEXCEPT {
     return FTY_API_AS(int32_t, FTY_API_AS(uint32_t, x) * UINT32_C(65536));
 }
