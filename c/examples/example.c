@@ -30,14 +30,17 @@ int main(void) {
     /* end */
     printf("%s: %d %d\n", fty_status_text(status), (int)value, (int)missing);
     /* begin */
-    uint8_t header[12] = {0};                             /* of a font with one table */
-    int is_written = fty_write_u32(header, sizeof header, 0, 0x00010000) == FTY_OK
-                     && fty_write_u16(header, sizeof header, 4, 1) == FTY_OK
-                     && fty_write_u16(header, sizeof header, 6, 16) == FTY_OK;
-    status = fty_write_u16(header, sizeof header, 11, 1); /* out of bounds: nothing is written */
+    uint8_t out[16] = {0};
+    fty_span store = {out, sizeof out}, rest = store;            /* an item variation store */
+    int is_written = fty_put_u16(&rest, 1) == FTY_OK             /* its format */
+                     && fty_reserve(&rest, 6).bytes != NULL      /* an offset and a count */
+                     && fty_write_offset32(store, 2, rest) == FTY_OK
+                     && fty_put_u16(&rest, 2) == FTY_OK          /* axes */
+                     && fty_put_zeros_to_4(&rest, store) == FTY_OK;
+    status = fty_write_i16(fty_span_from(store, 15), -1);        /* out of bounds */
     /* end */
-    fty_view font = {header, sizeof header};
-    printf("%s: %d %d %d %d\n", fty_status_text(status), is_written, (int)fty_u32(font, 0),
-           (int)fty_u16(font, 4), (int)fty_u32(font, 8));
+    fty_view written = {store.bytes, store.length - rest.length};
+    printf("%s: %d %d %d %d\n", fty_status_text(status), is_written, (int)written.length,
+           (int)fty_u32(written, 2), (int)fty_u16(fty_at_offset32(written, 2), 0));
     return 0;
 }

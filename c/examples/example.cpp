@@ -48,11 +48,25 @@ static std::int64_t delta_sum(const std::vector<std::int32_t> &scalars,
     return sum;
 }
 
+// A `loca` table of 16-bit offsets, of which each is half of the number of bytes before a glyph.
+static std::vector<std::uint8_t> loca(const std::vector<std::uint16_t> &halves) {
+    std::vector<std::uint8_t> bytes(2 * halves.size() + 2);
+    fty_span rest = {bytes.data(), bytes.size()};
+    for (const std::uint16_t half : halves)
+        if (fty_put_u16(&rest, half) != FTY_OK)
+            throw std::logic_error("the room is enough for each offset");
+    if (fty_put_zeros_to_4(&rest, {bytes.data(), bytes.size()}) != FTY_OK)
+        throw std::logic_error("two bytes are left");
+    bytes.resize(bytes.size() - rest.length);
+    return bytes;
+}
+
 int main() {
     const Fixed width = Fixed::parse("1.5");
     std::cout << (width * width).text() << ' ' << (width / Fixed::parse("-4")).text() << ' '
               << delta_sum({}, {}) << ' '
-              << delta_sum({width.bits(), -65536}, {100, 30}) / 65536 << '\n';
+              << delta_sum({width.bits(), -65536}, {100, 30}) / 65536 << ' '
+              << loca({0, 7, 258}).size() << '\n';
     try {
         Fixed::parse("1e3");
     } catch (const std::invalid_argument &fault) {

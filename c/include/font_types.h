@@ -5,15 +5,18 @@
  * For C99 and later, and for C++11 and later.
  *
  * In C, in this file: `static inline`, and constant expressions from C++14 on, except
- * fty_write_bytes. A program that calls only these needs no library.
+ * fty_put_bytes and fty_write_bytes. A program that calls only these needs no library.
  *
  *     views         fty_{absent,part,items,from}  fty_at_offset{16,24,32}
  *     fields        fty_{u8,i8,u16,i16,u24,i24,u32,i32,u64,i64,uint}
  *       checked     fty_read_{u8,i8,u16,i16,u24,i24,u32,i32,u64,i64,uint}
  *       in turn     fty_take_{u8,i8,u16,i16,u24,i24,u32,i32,u64,i64,uint}  fty_take
- *       written     fty_write_{u8,u16,u24,u32,u64,uint,bytes}
  *       at pointers fty_peek_{u16,i16,u24,i24,u32,i32,u64,i64}
  *                   fty_poke_{u16,u24,u32,u64}
+ *     written       fty_write_{u8,i8,u16,i16,u24,i24,u32,i32,u64,i64,uint,bytes}
+ *                   fty_write_offset{16,24,32}
+ *       in turn     fty_put_{u8,i8,u16,i16,u24,i24,u32,i32,u64,i64,bytes,zeros_to_4}
+ *                   fty_reserve  fty_span_from
  *     rounding      fty_round_{i16,i32,i64}  fty_fixed_{floor,ceil,round,round_away}
  *                   fty_f26dot6_{floor,ceil,round}
  *     conversions   fty_fixed_to_{i32,f26dot6,f2dot14}  fty_f26dot6_to_i32  fty_fixed_from_i32
@@ -47,14 +50,14 @@
  *
  * A function that can fail returns a fty_status, and stores its result where its last
  * argument points; what writes text stores the text at `out`, and its length there; a
- * fty_write function stores bytes in its array. If two errors apply, the status is the
+ * fty_put or fty_write function stores bytes in its span. If two errors apply, the status is the
  * first that the comment lists. If a function fails, it leaves all memory unchanged,
  * except that fty_tag_validate stores the index of the invalid byte.
  *
  * Pointers must be valid for the length that goes with them (1 for a single value),
  * aligned, and not null, even if the call fails. A pointer whose length is 0 may be
  * null (this is tested, not proved). What a call writes must not overlap its other
- * arguments, except in fty_write_bytes. Strings are bytes with a length: a terminating
+ * arguments, except the view that is copied. Strings are bytes with a length: a terminating
  * NUL is not needed, and none is written, so print them by "%.*s". Functions allocate
  * nothing, keep nothing between calls and may be called from any thread.
  *
@@ -643,80 +646,265 @@ FTY_API_INLINE fty_status fty_take_uint(
     return status;
 }
 
-/* ---- writing: big-endian fields at byte offsets in an array of `length` bytes; signed and
- *      fixed-point values by a cast, as `(uint16_t)value`. Length, offset and value are integers,
- *      of which a compiler takes any order ---- */
+/* ---- writing: a span is room for bytes, as a view is bytes that are there. fty_put_u16 and its
+ *      like write at its start and move it on; fty_write_u16 and its like leave it where it is, for
+ *      a field that is written later, fty_write_u16(fty_span_from(table, 4), value). No call takes
+ *      two integers, which a compiler takes in any order. Join calls by && or ||: the operands of |
+ *      run in any order ---- */
 
 /**
- * Writes the low `size` bytes of a value, 1 to 8. Fails by FTY_OUT_OF_BOUNDS unless all of them
- * are within the array, also if `size` is another.
+ * Room for bytes of a font: {bytes, length}, as a fty_view is, but not constant. Copy a span before
+ * you move it: the copy is the table, and what is moved is the rest of it.
  */
-FTY_API_INLINE fty_status fty_write_uint(
-    uint8_t *bytes, size_t length, size_t offset, size_t size, uint64_t value) FTY_API_NOEXCEPT {
-    if (size < 1 || size > 8 || size > length || offset > length - size)
+typedef struct fty_span {
+    uint8_t *bytes; /**< the first byte; null if the span is absent */
+    size_t length;  /**< the number of bytes */
+} fty_span;
+
+/** @cond */
+/* Moves a span by the length of its first field, and returns where that is. */
+FTY_API_INLINE uint8_t *fty_api_room(fty_span *rest, size_t length) FTY_API_NOEXCEPT {
+    uint8_t *const at = rest->bytes;
+    rest->bytes = at + length;
+    rest->length -= length;
+    return at;
+}
+
+/* Whether a span is the end of another: of the same array, and as far as the other goes. */
+FTY_API_INLINE int fty_api_ends(fty_span all, fty_span rest) FTY_API_NOEXCEPT {
+    return all.bytes != FTY_API_NULL && rest.length <= all.length
+           && rest.bytes == all.bytes + (all.length - rest.length);
+}
+/** @endcond */
+
+/** The room from an offset to the end of the span; absent if the offset is past the end. */
+FTY_API_INLINE fty_span fty_span_from(fty_span span, size_t offset) FTY_API_NOEXCEPT {
+    fty_span part = {FTY_API_NULL, 0};
+    if (offset > span.length)
+        return part;
+    part.bytes = offset == 0 ? span.bytes : span.bytes + offset;
+    part.length = span.length - offset;
+    return part;
+}
+
+/**
+ * Takes the first `length` bytes, to write them later: they keep what they have. Absent, and the
+ * span stays, unless all of them are there.
+ */
+FTY_API_INLINE fty_span fty_reserve(fty_span *rest, size_t length) FTY_API_NOEXCEPT {
+    const fty_span after = fty_span_from(*rest, length);
+    fty_span part = {FTY_API_NULL, 0};
+    if (length > rest->length)
+        return part;
+    part.bytes = rest->bytes;
+    part.length = length;
+    *rest = after;
+    return part;
+}
+
+/** Writes a uint8. Fails by FTY_OUT_OF_BOUNDS, and the span stays. */
+FTY_API_INLINE fty_status fty_put_u8(fty_span *rest, uint8_t value) FTY_API_NOEXCEPT {
+    if (rest->length == 0)
         return FTY_OUT_OF_BOUNDS;
-    for (size_t i = size; i > 0; i--, value >>= 8)
-        bytes[offset + i - 1] = FTY_API_AS(uint8_t, value & 0xFF);
+    *fty_api_room(rest, 1) = value;
     return FTY_OK;
 }
 
-/** Writes a uint8, or fails by FTY_OUT_OF_BOUNDS. */
-FTY_API_INLINE fty_status fty_write_u8(
-    uint8_t *bytes, size_t length, size_t offset, uint8_t value) FTY_API_NOEXCEPT {
-    if (offset >= length)
+/** Writes an int8. Fails by FTY_OUT_OF_BOUNDS, and the span stays. */
+FTY_API_INLINE fty_status fty_put_i8(fty_span *rest, int8_t value) FTY_API_NOEXCEPT {
+    return fty_put_u8(rest, FTY_API_AS(uint8_t, value));
+}
+
+/** Writes a uint16. Fails by FTY_OUT_OF_BOUNDS, and the span stays. */
+FTY_API_INLINE fty_status fty_put_u16(fty_span *rest, uint16_t value) FTY_API_NOEXCEPT {
+    if (rest->length < 2)
         return FTY_OUT_OF_BOUNDS;
-    bytes[offset] = value;
+    fty_poke_u16(fty_api_room(rest, 2), value);
     return FTY_OK;
 }
 
-/** Writes a uint16, or fails by FTY_OUT_OF_BOUNDS. */
-FTY_API_INLINE fty_status fty_write_u16(
-    uint8_t *bytes, size_t length, size_t offset, uint16_t value) FTY_API_NOEXCEPT {
-    if (length < 2 || offset > length - 2)
+/** Writes an int16. Fails by FTY_OUT_OF_BOUNDS, and the span stays. */
+FTY_API_INLINE fty_status fty_put_i16(fty_span *rest, int16_t value) FTY_API_NOEXCEPT {
+    return fty_put_u16(rest, FTY_API_AS(uint16_t, value));
+}
+
+/** Writes a uint24. Fails by FTY_OUT_OF_BOUNDS, FTY_OUT_OF_RANGE, and the span stays. */
+FTY_API_INLINE fty_status fty_put_u24(fty_span *rest, uint32_t value) FTY_API_NOEXCEPT {
+    if (rest->length < 3)
         return FTY_OUT_OF_BOUNDS;
-    fty_poke_u16(bytes + offset, value);
+    if (value > 0xFFFFFF)
+        return FTY_OUT_OF_RANGE;
+    fty_poke_u24(fty_api_room(rest, 3), value);
     return FTY_OK;
 }
 
-/** Writes a uint24, the low 24 bits of the value, or fails by FTY_OUT_OF_BOUNDS. */
-FTY_API_INLINE fty_status fty_write_u24(
-    uint8_t *bytes, size_t length, size_t offset, uint32_t value) FTY_API_NOEXCEPT {
-    if (length < 3 || offset > length - 3)
+/** Writes an int24. Fails by FTY_OUT_OF_BOUNDS, FTY_OUT_OF_RANGE, and the span stays. */
+FTY_API_INLINE fty_status fty_put_i24(fty_span *rest, int32_t value) FTY_API_NOEXCEPT {
+    if (rest->length < 3)
         return FTY_OUT_OF_BOUNDS;
-    fty_poke_u24(bytes + offset, value);
+    if (value < -0x800000 || value > 0x7FFFFF)
+        return FTY_OUT_OF_RANGE;
+    fty_poke_u24(fty_api_room(rest, 3), FTY_API_AS(uint32_t, value));
     return FTY_OK;
 }
 
-/** Writes a uint32, or fails by FTY_OUT_OF_BOUNDS. */
-FTY_API_INLINE fty_status fty_write_u32(
-    uint8_t *bytes, size_t length, size_t offset, uint32_t value) FTY_API_NOEXCEPT {
-    if (length < 4 || offset > length - 4)
+/** Writes a uint32. Fails by FTY_OUT_OF_BOUNDS, and the span stays. */
+FTY_API_INLINE fty_status fty_put_u32(fty_span *rest, uint32_t value) FTY_API_NOEXCEPT {
+    if (rest->length < 4)
         return FTY_OUT_OF_BOUNDS;
-    fty_poke_u32(bytes + offset, value);
+    fty_poke_u32(fty_api_room(rest, 4), value);
     return FTY_OK;
 }
 
-/** Writes an integer of 64 bits, or fails by FTY_OUT_OF_BOUNDS. */
-FTY_API_INLINE fty_status fty_write_u64(
-    uint8_t *bytes, size_t length, size_t offset, uint64_t value) FTY_API_NOEXCEPT {
-    if (length < 8 || offset > length - 8)
+/** Writes an int32. Fails by FTY_OUT_OF_BOUNDS, and the span stays. */
+FTY_API_INLINE fty_status fty_put_i32(fty_span *rest, int32_t value) FTY_API_NOEXCEPT {
+    return fty_put_u32(rest, FTY_API_AS(uint32_t, value));
+}
+
+/** Writes an integer of 64 bits, unsigned. Fails by FTY_OUT_OF_BOUNDS, and the span stays. */
+FTY_API_INLINE fty_status fty_put_u64(fty_span *rest, uint64_t value) FTY_API_NOEXCEPT {
+    if (rest->length < 8)
         return FTY_OUT_OF_BOUNDS;
-    fty_poke_u64(bytes + offset, value);
+    fty_poke_u64(fty_api_room(rest, 8), value);
     return FTY_OK;
+}
+
+/** Writes an int64. Fails by FTY_OUT_OF_BOUNDS, and the span stays. */
+FTY_API_INLINE fty_status fty_put_i64(fty_span *rest, int64_t value) FTY_API_NOEXCEPT {
+    return fty_put_u64(rest, FTY_API_AS(uint64_t, value));
 }
 
 /**
  * Copies the bytes of a view, also if they overlap those that are written. Fails by
- * FTY_OUT_OF_BOUNDS if the view is absent, or unless all of them are within the array.
+ * FTY_OUT_OF_BOUNDS if the view or the span is absent, or the view is longer; and the span stays.
  */
-FTY_API_RUN fty_status fty_write_bytes(
-    uint8_t *bytes, size_t length, size_t offset, fty_view view) FTY_API_NOEXCEPT {
-    const size_t count = view.length;
-    if (view.bytes == FTY_API_NULL || count > length || offset > length - count)
+FTY_API_RUN fty_status fty_put_bytes(fty_span *rest, fty_view view) FTY_API_NOEXCEPT {
+    if (view.bytes == FTY_API_NULL || rest->bytes == FTY_API_NULL || view.length > rest->length)
         return FTY_OUT_OF_BOUNDS;
-    if (count != 0)
-        FTY_API_MOVE(bytes + offset, view.bytes, count);
+    if (view.length != 0)
+        FTY_API_MOVE(fty_api_room(rest, view.length), view.bytes, view.length);
     return FTY_OK;
+}
+
+/**
+ * Writes up to three zeros, so that a multiple of four bytes of a table is written, of which the
+ * span is the rest. Fails by FTY_OUT_OF_BOUNDS unless it is, and they fit; and the span stays.
+ */
+FTY_API_INLINE fty_status fty_put_zeros_to_4(fty_span *rest, fty_span table) FTY_API_NOEXCEPT {
+    const size_t count = (rest->length - table.length) & 3;
+    if (!fty_api_ends(table, *rest) || count > rest->length)
+        return FTY_OUT_OF_BOUNDS;
+    if ((count & 1) != 0)
+        *fty_api_room(rest, 1) = 0;
+    if ((count & 2) != 0)
+        fty_poke_u16(fty_api_room(rest, 2), 0);
+    return FTY_OK;
+}
+
+/** fty_put_u8 at the start of a span, which stays. */
+FTY_API_INLINE fty_status fty_write_u8(fty_span span, uint8_t value) FTY_API_NOEXCEPT {
+    return fty_put_u8(&span, value);
+}
+
+/** fty_put_i8 at the start of a span, which stays. */
+FTY_API_INLINE fty_status fty_write_i8(fty_span span, int8_t value) FTY_API_NOEXCEPT {
+    return fty_put_i8(&span, value);
+}
+
+/** fty_put_u16 at the start of a span, which stays. */
+FTY_API_INLINE fty_status fty_write_u16(fty_span span, uint16_t value) FTY_API_NOEXCEPT {
+    return fty_put_u16(&span, value);
+}
+
+/** fty_put_i16 at the start of a span, which stays. */
+FTY_API_INLINE fty_status fty_write_i16(fty_span span, int16_t value) FTY_API_NOEXCEPT {
+    return fty_put_i16(&span, value);
+}
+
+/** fty_put_u24 at the start of a span, which stays. */
+FTY_API_INLINE fty_status fty_write_u24(fty_span span, uint32_t value) FTY_API_NOEXCEPT {
+    return fty_put_u24(&span, value);
+}
+
+/** fty_put_i24 at the start of a span, which stays. */
+FTY_API_INLINE fty_status fty_write_i24(fty_span span, int32_t value) FTY_API_NOEXCEPT {
+    return fty_put_i24(&span, value);
+}
+
+/** fty_put_u32 at the start of a span, which stays. */
+FTY_API_INLINE fty_status fty_write_u32(fty_span span, uint32_t value) FTY_API_NOEXCEPT {
+    return fty_put_u32(&span, value);
+}
+
+/** fty_put_i32 at the start of a span, which stays. */
+FTY_API_INLINE fty_status fty_write_i32(fty_span span, int32_t value) FTY_API_NOEXCEPT {
+    return fty_put_i32(&span, value);
+}
+
+/** fty_put_u64 at the start of a span, which stays. */
+FTY_API_INLINE fty_status fty_write_u64(fty_span span, uint64_t value) FTY_API_NOEXCEPT {
+    return fty_put_u64(&span, value);
+}
+
+/** fty_put_i64 at the start of a span, which stays. */
+FTY_API_INLINE fty_status fty_write_i64(fty_span span, int64_t value) FTY_API_NOEXCEPT {
+    return fty_put_i64(&span, value);
+}
+
+/**
+ * Fills a span of 1 to 8 bytes with an unsigned integer. Fails by FTY_OUT_OF_BOUNDS if the span has
+ * another length, by FTY_OUT_OF_RANGE if the value needs more bytes.
+ */
+FTY_API_INLINE fty_status fty_write_uint(fty_span span, uint64_t value) FTY_API_NOEXCEPT {
+    if (span.length < 1 || span.length > 8)
+        return FTY_OUT_OF_BOUNDS;
+    if (span.length < 8 && value >> 8 * span.length != 0)
+        return FTY_OUT_OF_RANGE;
+    for (size_t i = span.length; i > 0; i--, value >>= 8)
+        span.bytes[i - 1] = FTY_API_AS(uint8_t, value & 0xFF);
+    return FTY_OK;
+}
+
+/** fty_put_bytes at the start of a span, which stays. */
+FTY_API_RUN fty_status fty_write_bytes(fty_span span, fty_view view) FTY_API_NOEXCEPT {
+    return fty_put_bytes(&span, view);
+}
+
+/** @cond */
+/* Writes the distance of a part from the start of its table, in `size` bytes. */
+FTY_API_INLINE fty_status fty_api_offset(
+    fty_span table, size_t offset, fty_span part, size_t size) FTY_API_NOEXCEPT {
+    fty_span rest = fty_span_from(table, offset);
+    const fty_span field = fty_reserve(&rest, size);
+    if (!fty_api_ends(table, part) || field.length == 0)
+        return FTY_OUT_OF_BOUNDS;
+    if (part.length == table.length)
+        return FTY_OUT_OF_RANGE;
+    return fty_write_uint(field, table.length - part.length);
+}
+/** @endcond */
+
+/**
+ * Writes at an offset of a table where a part of it begins, in 16 bits: then fty_at_offset16 of the
+ * table returns the part. The part has to be the end of the table, as the rest of it is. Fails by
+ * FTY_OUT_OF_BOUNDS unless it is and the field is in the table; by FTY_OUT_OF_RANGE if the part is
+ * the whole table, for 0 means null, or begins too far from its start.
+ */
+FTY_API_INLINE fty_status fty_write_offset16(
+    fty_span table, size_t offset, fty_span part) FTY_API_NOEXCEPT {
+    return fty_api_offset(table, offset, part, 2);
+}
+
+/** Writes where a part of a table begins as fty_write_offset16 does, in 24 bits. */
+FTY_API_INLINE fty_status fty_write_offset24(
+    fty_span table, size_t offset, fty_span part) FTY_API_NOEXCEPT {
+    return fty_api_offset(table, offset, part, 3);
+}
+
+/** Writes where a part of a table begins as fty_write_offset16 does, in 32 bits. */
+FTY_API_INLINE fty_status fty_write_offset32(
+    fty_span table, size_t offset, fty_span part) FTY_API_NOEXCEPT {
+    return fty_api_offset(table, offset, part, 4);
 }
 
 /* ---- rounding to integers, half up; the result is a raw value too ---- */
@@ -1203,6 +1391,7 @@ FTY_API_ASSERT(sizeof(fty_point) == 8 && offsetof(fty_point, y) == 4);
 FTY_API_ASSERT(sizeof(fty_pad) == 2 * sizeof(size_t));
 FTY_API_ASSERT(offsetof(fty_pad, fill) == sizeof(size_t));
 FTY_API_ASSERT(offsetof(fty_view, length) == sizeof(const uint8_t *));
+FTY_API_ASSERT(sizeof(fty_span) == sizeof(fty_view));
 #undef FTY_API_ASSERT
 #endif
 

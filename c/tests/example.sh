@@ -3,7 +3,7 @@
 cc -std=c99 $strict examples/example.c "$archive" -o "$work/example"
 [[ $("$work/example") == "$shown" ]]
 c++ -std=c++11 $strict examples/example.cpp "$archive" -o "$work/example"
-[[ $("$work/example") == $'2.25 -0.375 0 120\n1e3: not a decimal number' ]]
+[[ $("$work/example") == $'2.25 -0.375 0 120 8\n1e3: not a decimal number' ]]
 {
     echo '#include "font_types.h"'
     lines cpp 'Inside your own reader'

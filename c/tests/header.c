@@ -45,14 +45,19 @@ static struct {
     do {                                                                                          \
         const fty_view view = {(const uint8_t *)BYTES, sizeof BYTES - 1};                         \
         uint8_t written[8];                                                                       \
+        fty_span room = {written, sizeof BYTES - 1};                                              \
         STATE(fty_##NAME(view, 0) == NUMBER && fty_##NAME(view, 1) == 0);                         \
         STATE(fty_read_##NAME(view, 0, &found.NAME) == FTY_OK && found.NAME == NUMBER);           \
         fty_view rest = view;                                                                     \
         found.NAME = KEPT;                                                                        \
         STATE(fty_take_##NAME(&rest, &found.NAME) == FTY_OK && found.NAME == NUMBER               \
               && fty_take_##NAME(&rest, &found.NAME) == FTY_OUT_OF_BOUNDS);                       \
-        STATE(fty_write_uint(written, 8, 0, view.length, (uint64_t)NUMBER) == FTY_OK              \
+        STATE(fty_write_##NAME(room, NUMBER) == FTY_OK                                            \
               && memcmp(written, BYTES, view.length) == 0);                                       \
+        memset(written, KEPT, sizeof written);                                                    \
+        STATE(fty_put_##NAME(&room, NUMBER) == FTY_OK && room.length == 0                         \
+              && memcmp(written, BYTES, view.length) == 0                                         \
+              && fty_put_##NAME(&room, NUMBER) == FTY_OUT_OF_BOUNDS);                             \
     } while (0)
 
 static void values_of_opentype(void) {
@@ -83,8 +88,15 @@ static void values_of_opentype(void) {
     far[65535] = 7;
     const fty_view table = {far, 65536};
     STATE(fty_at_offset24(table, 1).bytes == far + 65536);
-    STATE(fty_write_bytes(far, sizeof far, 65536, table) == FTY_OK
+    const fty_span all_far = {far, sizeof far};
+    STATE(fty_write_bytes(fty_span_from(all_far, 65536), table) == FTY_OK
           && memcmp(far, far + 65536, 65536) == 0);
+    /* The end of them is too far for an offset of 16 bits, and not for one of 24. */
+    STATE(fty_write_offset16(all_far, 4, fty_span_from(all_far, 65536)) == FTY_OUT_OF_RANGE
+          && fty_write_offset16(all_far, 4, fty_span_from(all_far, 65535)) == FTY_OK
+          && fty_write_offset24(all_far, 6, fty_span_from(all_far, 65536)) == FTY_OK
+          && fty_write_offset32(all_far, 9, fty_span_from(all_far, 65536)) == FTY_OK
+          && memcmp(far + 4, "\xFF\xFF\1\0\0\0\1\0\0", 9) == 0);
     /* Offsets of each size, of the end, in fields that are not the first. */
     const fty_view five = {(const uint8_t *)"\0\0\0\0\5", 5};
     STATE(fty_at_offset16(five, 3).bytes == five.bytes + 5
@@ -96,8 +108,11 @@ static void values_of_opentype(void) {
     for (size_t size = 1, at = 7; size <= 8; size++, at--) {
         uint8_t last[8];
         uint32_t low = KEPT;
-        STATE(fty_write_uint(last, 8, at, size, number) == FTY_OK
-              && memcmp(last + at, eight.bytes + at, size) == 0);
+        const fty_span end = {last + at, size};
+        const uint64_t fit = number & UINT64_MAX >> 8 * at;
+        STATE(fty_write_uint(end, fit) == FTY_OK
+              && memcmp(last + at, eight.bytes + at, size) == 0
+              && fty_write_uint(end, UINT64_MAX) == (size == 8 ? FTY_OK : FTY_OUT_OF_RANGE));
         const uint32_t least = (uint32_t)(size > 4 ? 0 : number & UINT64_MAX >> 8 * at);
         const fty_status status = fty_read_uint(eight, at, size, &low);
         STATE(fty_uint(eight, at, size) == least
@@ -107,14 +122,46 @@ static void values_of_opentype(void) {
      * uint16 and a uint8. */
     static const char record[] = "glyf\x01\xF0\x20\0\0\0\0\x7C\x25\xB0\x80\xF0\x20\x87";
     uint8_t written[18] = {0};
-    STATE(fty_write_u32(written, 4, 0, FTY_TAG('g', 'l', 'y', 'f')) == FTY_OK
-          && fty_write_u24(written, 7, 4, 0x101F020) == FTY_OK
-          && fty_write_u64(written, 15, 7, 2082844800) == FTY_OK
-          && fty_write_u16(written, 17, 15, 61472) == FTY_OK
-          && fty_write_u8(written, 18, 17, 135) == FTY_OK
-          && fty_write_u16(written, 15, 14, 7) == FTY_OUT_OF_BOUNDS
-          && fty_write_uint(written, 15, 0, 0, 7) == FTY_OUT_OF_BOUNDS
+    fty_span rest = {written, sizeof written}, nine = {written, 9};
+    STATE(fty_put_u32(&rest, FTY_TAG('g', 'l', 'y', 'f')) == FTY_OK
+          && fty_put_u24(&rest, 0x101F020) == FTY_OUT_OF_RANGE
+          && fty_put_i24(&rest, 0x800000) == FTY_OUT_OF_RANGE
+          && fty_put_u24(&rest, 0x1F020) == FTY_OK
+          && fty_put_i64(&rest, 2082844800) == FTY_OK
+          && fty_put_u16(&rest, 61472) == FTY_OK
+          && fty_put_u16(&rest, 7) == FTY_OUT_OF_BOUNDS
+          && fty_put_u8(&rest, 135) == FTY_OK
+          && fty_put_u8(&rest, 7) == FTY_OUT_OF_BOUNDS && rest.bytes == written + 18
+          && fty_write_uint(rest, 0) == FTY_OUT_OF_BOUNDS
+          && fty_write_uint(nine, 0) == FTY_OUT_OF_BOUNDS
           && memcmp(written, record, 18) == 0);
+    /* GSUB: version 1.0, and three lists, of which the last begins at the end. Then parts that are
+     * not the end of the table, begin before it, or are absent. */
+    uint8_t lists[24];
+    memset(lists, KEPT, sizeof lists);
+    const fty_span gsub = {lists, sizeof lists}, inside = {lists + 10, 4}, none_left = {NULL, 0};
+    rest = gsub;
+    STATE(fty_put_u32(&rest, 0x10000) == FTY_OK && fty_reserve(&rest, 6).bytes == lists + 4
+          && fty_write_offset16(gsub, 4, rest) == FTY_OK && fty_put_u16(&rest, 0) == FTY_OK
+          && fty_put_u8(&rest, 9) == FTY_OK && fty_put_zeros_to_4(&rest, gsub) == FTY_OK
+          && fty_put_zeros_to_4(&rest, gsub) == FTY_OK
+          && fty_write_offset16(gsub, 6, rest) == FTY_OK
+          && fty_reserve(&rest, 9).bytes == NULL && fty_reserve(&rest, 8).length == 8
+          && fty_write_offset16(gsub, 8, rest) == FTY_OK && fty_reserve(&rest, 0).bytes != NULL
+          && memcmp(lists, "\0\1\0\0\0\xA\0\x10\0\x18\0\0\t\0\0\0\7\7\7\7\7\7\7\7", 24) == 0);
+    STATE(fty_write_offset16(gsub, 4, gsub) == FTY_OUT_OF_RANGE
+          && fty_write_offset16(gsub, 23, rest) == FTY_OUT_OF_BOUNDS
+          && fty_write_offset16(gsub, 4, inside) == FTY_OUT_OF_BOUNDS
+          && fty_write_offset16(rest, 0, gsub) == FTY_OUT_OF_BOUNDS
+          && fty_write_offset16(gsub, 4, none_left) == FTY_OUT_OF_BOUNDS
+          && fty_write_offset16(none_left, 0, none_left) == FTY_OUT_OF_BOUNDS
+          && fty_write_offset16(none_left, 0, rest) == FTY_OUT_OF_BOUNDS
+          && lists[5] == 10);
+    /* Zeros that do not fit, or would be of another table. */
+    fty_span three = {lists, 3}, last = fty_span_from(three, 1), other = inside;
+    STATE(fty_put_zeros_to_4(&last, three) == FTY_OUT_OF_BOUNDS && last.length == 2
+          && fty_put_zeros_to_4(&other, gsub) == FTY_OUT_OF_BOUNDS && other.length == 4
+          && fty_span_from(three, 4).bytes == NULL && fty_span_from(three, 3).bytes == lists + 3);
     uint16_t kept = KEPT;
     STATE(fty_read_u16(subtable, 17, &kept) == FTY_OUT_OF_BOUNDS && kept == KEPT);
     STATE(fty_fixed_from_i32(-1000) == -65536000 && fty_fixed_sub(1000, 400) == 600
@@ -151,14 +198,19 @@ static void values_of_opentype(void) {
           && fty_f2dot30_to_f2dot14(2147475456) == -32768);
     /* A part of no bytes is there, and an absent one is not written. */
     const fty_view none = fty_part(subtable, sizeof bytes, 0);
-    STATE(none.bytes == bytes + sizeof bytes && fty_write_bytes(written, 15, 15, none) == FTY_OK
-          && fty_write_bytes(written, 15, 0, fty_absent()) == FTY_OUT_OF_BOUNDS);
+    const fty_span room = {written, 15};
+    STATE(none.bytes == bytes + sizeof bytes
+          && fty_write_bytes(fty_span_from(room, 15), none) == FTY_OK
+          && fty_write_bytes(fty_span_from(room, 16), none) == FTY_OUT_OF_BOUNDS
+          && fty_write_bytes(room, fty_absent()) == FTY_OUT_OF_BOUNDS);
     /* Bytes of the array itself, in both directions. */
     const fty_view tag = {written, 4}, date = {written + 11, 4};
-    STATE(fty_write_bytes(written, 15, 2, tag) == FTY_OK && memcmp(written, "glglyf", 6) == 0);
-    STATE(fty_write_bytes(written, 15, 9, date) == FTY_OK
+    STATE(fty_write_bytes(fty_span_from(room, 2), tag) == FTY_OK
+          && memcmp(written, "glglyf", 6) == 0);
+    fty_span nearly = fty_span_from(room, 9);
+    STATE(fty_put_bytes(&nearly, date) == FTY_OK && nearly.length == 2
           && memcmp(written + 9, "\x7C\x25\xB0\x80\xB0\x80", 6) == 0);
-    STATE(fty_write_bytes(written, 15, 12, tag) == FTY_OUT_OF_BOUNDS);
+    STATE(fty_put_bytes(&nearly, tag) == FTY_OUT_OF_BOUNDS && nearly.length == 2);
     STATE(strcmp(fty_status_text((fty_status)9), "unknown status") == 0);
     const fty_pad pad = FTY_PAD_INIT(6);
     STATE(pad.width == 6 && pad.fill == ' ' && pad.align == FTY_RIGHT && pad.plus == 0
@@ -169,5 +221,5 @@ int main(void) {
     values_of_opentype();
     printf("header: %d checks, %d failed\n", checks, failures);
     /* With another number, a part was left out. */
-    return failures == 0 && checks == 96 ? 0 : 1;
+    return failures == 0 && checks == 110 ? 0 : 1;
 }

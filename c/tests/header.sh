@@ -53,7 +53,7 @@ diff <(echo "$in_c") <(echo "$in_rust")
 constants=$(c++ -std=c++14 -x c++ -E -P include/font_types.h | tr '\n' ' ' |
     grep -oE '\bconstexpr [^;{}]*\) noexcept *\{' | grep -oE '\bfty_[a-z0-9_]+\(' |
     grep -v '^fty_api_' | names)
-run_only=$(echo "$calling"$'\n'fty_write_bytes | sort)
+run_only=$(echo "$calling"$'\n'fty_{put,write}_bytes | tr ' ' '\n' | sort)
 same 'constexpr in font_types.h' "$constants" \
     'in C in font_types.h' "$(comm -23 <(echo "$inline") <(echo "$run_only"))"
 
@@ -61,12 +61,12 @@ same 'constexpr in font_types.h' "$constants" \
 # is ignored.
 [[ $(grep -o '\bfty_[a-z0-9_]*(' <<<"$text" | grep -v '^fty_api_' | names) == \
     $(sort -u <<<"$declared"$'\n'"$inline") ]]
-calls=$(sed -E 's/ noexcept.*//; s/\(void\)/()/; s/fty_view view/v/; s/fty_status status/FTY_OK/
+calls=$(sed -E 's/ noexcept.*//; s/\(void\)/()/; s/fty_view view/v/; s/fty_span [a-z]+/s/g; s/fty_status status/FTY_OK/
     s/fty_matrix [a-z]/m/g; s/fty_point [a-z]/p/g; s/(const )?[a-z0-9_]+ \*+[a-z_]+/0/g
     s/[a-z0-9_]+ [a-z_]+([,)])/9\1/g' <<<"$functions")
 {
     echo '#include "font_types.h"'
-    echo 'void f(fty_matrix m, fty_point p, fty_view v) {'
+    echo 'void f(fty_matrix m, fty_point p, fty_view v, fty_span s) {'
     sed 's/$/;/' <<<"$calls"
     echo '}'
 } >"$work/calls.c"
@@ -74,6 +74,32 @@ fails cc -Iinclude -Werror -c -o "$work/calls.o" "$work/calls.c"
 [[ $(grep -c 'unused-result' "$work/log") == $(($(wc -l <<<"$calls") - 5)) ]]
 sed -E 's/^(fty_.*);$/static_assert(noexcept(\1), "");/' "$work/calls.c" >"$work/calls.cpp"
 c++ -std=c++11 -w -Iinclude -fsyntax-only "$work/calls.cpp"
+
+# No call that writes compiles with its arguments in another order, or with a view.
+compiles() {
+    printf '%s\n' '#include "font_types.h"' \
+        'fty_status f(fty_span s, fty_span t, fty_view v, size_t at, uint16_t x) {' \
+        "(void)s, (void)t, (void)v, (void)at, (void)x; return $1; }" >"$work/order.c"
+    "${@:2}" -Werror -Iinclude -fsyntax-only "$work/order.c"
+}
+compiles 'fty_write_u16(fty_span_from(s, at), x)' cc
+while read -r call; do
+    fails compiles "$call" cc
+    fails compiles "$call" c++ -x c++
+done <<'CALLS'
+fty_put_u16(x, &s)
+fty_put_u16(s, x)
+fty_put_u16(&v, x)
+fty_write_u16(x, s)
+fty_write_u16(s, at, x)
+fty_write_u16(v, x)
+fty_write_u16(fty_span_from(at, s), x)
+fty_write_uint(x, s)
+fty_write_bytes(v, s)
+fty_write_offset16(at, s, t)
+fty_write_offset16(s, t, at)
+fty_put_zeros_to_4(s, &t)
+CALLS
 
 # A guard; FTY_TAG of any expressions; and no other macro that is left.
 c++ -std=c++11 -Iinclude -x c++ -fsyntax-only - <<'CPP'

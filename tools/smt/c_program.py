@@ -30,7 +30,8 @@ def wrapper(case: Case) -> str:
             pointer = "uint8_t *" if type_ == "room" else "const uint8_t *"
             parameters += [f"{pointer}{name}", f"size_t {name}_length"]
             given += [f"({pointer})(uintptr_t)", "(size_t)"]
-            view = view or f"const fty_view view = {{{name}, {name}_length}}; "
+            kind = "fty_span span" if type_ == "room" else "fty_view view"
+            view = view or f"const {kind} = {{{name}, {name}_length}}; "
         else:
             parameters.append(f"{in_c(type_)} {name}")
             given.append(f"({in_c(type_)})")

@@ -7,15 +7,16 @@ import z3
 from z3 import BitVecRef
 
 import inputs
-from c_row import FIELDS, OUT_OF_BOUNDS, always, fallible, in_c, row, status
+from c_row import FIELDS, OUT_OF_BOUNDS, OUT_OF_RANGE, always, fallible, in_c, row, status
 from cases import Rule
-from rules import B, Products, S, Text, U, together, wrap
-from scalars import ZERO, written
+from rules import Products, S, Text, U, fits, fits_unsigned, stored, together, wrap
+from scalars import ZERO
 from values import constant
 
 Outcome = tuple[Any, ...]
 ABSENT = constant(-1)
 PLACE = "(uint64_t)(uintptr_t){}.bytes - (uintptr_t)view.bytes"
+SPANNED = "(uint64_t)(uintptr_t){}.bytes - (uintptr_t)span.bytes"
 IS_ABSENT = "{0}.bytes == NULL && {0}.length == 0"
 
 # fmt: off
@@ -119,39 +120,177 @@ def is_kept(text: Text, after: Text) -> z3.BoolRef:
     return z3.Implies(z3.ULT(place, text.length), after.byte(place) == text.byte(place))
 
 
-def wrote(text: Text, x: Any, at: Any, size: int, result: BitVecRef, after: Text) -> Any:
-    low_bytes = U(x) & (1 << 8 * size) - 1
-    is_right = written(text, low_bytes, at, size, B(result == 0), after)
-    return z3.And(z3.Or(result == 0, result == OUT_OF_BOUNDS), is_right)
+def wrote(
+    text: Text, x: Any, at: Any, size: int, result: Any, after: Text, fit: Any = z3.BoolVal(True)
+) -> Any:
+    """The low bytes of `x` are at `at`, and no other byte is changed; or no byte is, and the status
+    says which fails first: that the field is there, or that `x` fits in it."""
+    place, is_there = z3.BitVec("place", 64), text.has(at, size)
+    expected = text.byte(place)
+    for i, it in enumerate(stored(x, size)):
+        expected = z3.If(z3.And(is_there, fit, place == at + i), it, expected)
+    answer = z3.If(is_there, status(fit, OUT_OF_RANGE), constant(OUT_OF_BOUNDS, 32))
+    is_right = z3.Implies(z3.ULT(place, text.length), after.byte(place) == expected)
+    return z3.And(result == answer, is_right)
+
+
+def fits_in(x: BitVecRef, name: str) -> z3.BoolRef:
+    """Only 24 bits have no type of their own."""
+    if name[1:] != "24":
+        return z3.BoolVal(True)
+    return fits(24, S(x)) if name[0] == "i" else fits_unsigned(24, U(x))
+
+
+REST = "fty_span rest = span;"
+
+
+def moved(name: str, extra: str, call: str, gone: Callable[..., BitVecRef]) -> None:
+    """By how many bytes a call moves `rest`, which it gets as `span` is."""
+    of, start = f"text: room{extra}", f"({{ {REST} {call};"
+    row(f"{name}, rest", of, "u64", f"{start} {SPANNED.format('rest')}; }})", gone)
+    row(f"{name}, length of the rest", of, "u64", f"{start} rest.length; }})",
+        lambda p, text, *given: text.length - gone(p, text, *given))
 
 
 def write(name: str, size: int, type_: str) -> None:
+    row(f"put_{name}", f"text: room, x: {type_}", "u32",
+        f"({{ {REST} (uint32_t)fty_put_{name}(&rest, x); }})",
+        lambda p, text, x, result, after: wrote(
+            text, x, ZERO, size, result, after, fits_in(x, name)), True)
+    moved(f"put_{name}", f", x: {type_}", f"(void)!fty_put_{name}(&rest, x)",
+          lambda p, text, x: z3.If(
+              z3.And(text.has(ZERO, size), fits_in(x, name)), constant(size), ZERO))
+    always(f"put_{name}, absent", f"x: {type_}", "bool",
+           f"({{ fty_span rest = {{NULL, 0}}; fty_put_{name}(&rest, x) == {OUT_OF_BOUNDS}"
+           f" && {IS_ABSENT.format('rest')}; }})", 1)
     row(f"write_{name}", f"text: room, x: {type_}, at: size", "u32",
-        f"fty_write_{name}(text, text_length, at, x)",
-        lambda p, text, x, at, result, after: wrote(text, x, at, size, result, after), True)
-    always(f"write_{name}, absent", f"x: {type_}, at: size", "u32",
-           f"fty_write_{name}(NULL, 0, at, x)", OUT_OF_BOUNDS)
-    if size > 1:
+        f"fty_write_{name}(fty_span_from(span, at), x)",
+        lambda p, text, x, at, result, after: wrote(
+            text, x, at, size, result, after, fits_in(x, name)), True)
+    always(f"write_{name}, absent", f"x: {type_}", "u32",
+           f"fty_write_{name}((fty_span){{NULL, 0}}, x)", OUT_OF_BOUNDS)
+    if size > 1 and name[0] == "u":
         row(f"poke_{name}", f"text: room, x: {type_}", "u32",
             f"text_length < {size} ? {OUT_OF_BOUNDS} : (fty_poke_{name}(text, x), 0)",
             lambda p, text, x, result, after: wrote(text, x, ZERO, size, result, after), True)
 
 
 for name, (size, type_) in FIELDS.items():
-    if name[0] == "u":
-        write(name, size, type_)
+    write(name, size, type_)
 
 
-def wrote_sized(p: Products, text: Text, x: Any, at: Any, n: Any, result: Any, after: Text) -> Any:
+def wrote_sized(p: Products, text: Text, x: Any, result: Any, after: Text) -> Any:
+    """Of all bytes, 1 to 8."""
     is_refused = z3.And(result == OUT_OF_BOUNDS, is_kept(text, after))
-    of_size = (z3.Implies(n == it, wrote(text, x, at, it, result, after)) for it in range(1, 9))
-    return z3.And(z3.Implies(z3.Or(n == 0, z3.UGT(n, 8)), is_refused), *of_size)
+    known = [z3.Implies(z3.Or(text.length == 0, z3.UGT(text.length, 8)), is_refused)]
+    for size in range(1, 9):
+        is_right = wrote(text, x, ZERO, size, result, after, fits_unsigned(8 * size, U(x)))
+        known.append(z3.Implies(text.length == size, is_right))
+    return z3.And(known)
 
 
-row("write_uint", "text: room, x: u64, at: size, n: size", "u32",
-    "fty_write_uint(text, text_length, at, n, x)", wrote_sized, True)
-always("write_uint, absent", "x: u64, at: size, n: size", "u32",
-       "fty_write_uint(NULL, 0, at, n, x)", OUT_OF_BOUNDS)
+row("write_uint", "text: room, x: u64", "u32", "fty_write_uint(span, x)", wrote_sized, True)
+always("write_uint, absent", "x: u64", "u32", "fty_write_uint((fty_span){NULL, 0}, x)",
+       OUT_OF_BOUNDS)
+
+
+# ---------------------------------------------------------------- parts of a span
+def spanned(name: str, extra: str, it: str, place: Rule) -> None:
+    """A part: `place` returns where it begins, how long it is, and whether it is there."""
+    of = f"text: room, {extra}"
+    found = f"it.bytes == NULL ? UINT64_MAX : {SPANNED.format('it')}"
+    row(f"{name}, place", of, "u64", f"({{ {REST} const fty_span it = {it}; {found}; }})",
+        lambda *given: (lambda start, n, is_there: z3.If(is_there, start, ABSENT))(*place(*given)))
+    row(f"{name}, length", of, "u64", f"({{ {REST} {it}.length; }})",
+        lambda *given: (lambda start, n, is_there: z3.If(is_there, n, ZERO))(*place(*given)))
+    always(f"{name}, absent", extra, "bool", f"({{ fty_span span = {{NULL, 0}}, rest = span,"
+           f" it = {it}; {IS_ABSENT.format('it')} && {IS_ABSENT.format('rest')}; }})", 1)
+
+
+spanned("span_from", "at: size", "fty_span_from(span, at)",
+        lambda p, text, at: (at, text.length - at, z3.ULE(at, text.length)))
+spanned("reserve", "n: size", "fty_reserve(&rest, n)",
+        lambda p, text, n: (ZERO, n, z3.ULE(n, text.length)))
+moved("reserve", ", n: size", "(void)!fty_reserve(&rest, n).bytes",
+      lambda p, text, n: z3.If(z3.ULE(n, text.length), n, ZERO))
+
+# The part of `n` bytes at `from`, which is the end of the array or is not.
+PART = f"from > text_length || n > text_length - from ? {OUT_OF_BOUNDS}"
+PART += " : ({ fty_span part = {text + from, n}; %s; })"
+
+
+def wrote_offset(size: int) -> Callable[..., Any]:
+    def rule(
+        p: Products, text: Text, at: Any, start: Any, n: Any, result: Any, after: Text
+    ) -> Any:
+        """The field has to be there, and the part to be the end; then its place to fit, and not to
+        be 0."""
+        is_end = z3.And(z3.ULE(start, text.length), n == text.length - start)
+        fit = z3.And(start != 0, fits_unsigned(8 * size, U(start)))
+        is_refused = z3.And(result == OUT_OF_BOUNDS, is_kept(text, after))
+        right = wrote(text, start, at, size, result, after, fit)
+        return z3.If(is_end, right, is_refused)
+
+    return rule
+
+
+for size in (2, 3, 4):
+    name = f"write_offset{8 * size}"
+    row(name, "text: room, at: size, from: size, n: size", "u32",
+        PART % f"(uint32_t)fty_{name}(span, at, part)", wrote_offset(size), True)
+    row(f"{name}, to none", "text: room, at: size", "u32",
+        f"(uint32_t)fty_{name}(span, at, (fty_span){{NULL, 0}})",
+        lambda p, text, at, result, after: z3.And(
+            result == OUT_OF_BOUNDS, is_kept(text, after)), True)
+    row(f"{name}, of none", "text: room, at: size", "u32",
+        f"(uint32_t)fty_{name}((fty_span){{NULL, 0}}, at, span)",
+        lambda p, text, at, result, after: z3.And(
+            result == OUT_OF_BOUNDS, is_kept(text, after)), True)
+    # A part that begins before its table, or with it.
+    row(f"{name}, before", "text: room, from: size", "u32",
+        f"(uint32_t)fty_{name}(fty_span_from(span, from), 0, span)",
+        lambda p, text, start, result, after, size=size: z3.And(
+            is_kept(text, after), result == z3.If(
+                z3.And(start == 0, text.has(ZERO, size)), constant(OUT_OF_RANGE, 32),
+                constant(OUT_OF_BOUNDS, 32))), True)
+
+
+def zeros(text: Text, start: Any, n: Any) -> tuple[Any, Any]:
+    """How many bytes are missing to a multiple of 4, and whether they are there."""
+    count = z3.URem(4 - z3.URem(start, 4), 4)
+    is_end = z3.And(z3.ULE(start, text.length), n == text.length - start)
+    return count, z3.And(is_end, z3.ULE(count, n))
+
+
+def wrote_zeros(
+    p: Products, text: Text, start: Any, n: Any, result: Any, after: Text
+) -> Any:
+    place = z3.BitVec("place", 64)
+    count, is_done = zeros(text, start, n)
+    new = z3.If(z3.And(is_done, z3.ULT(place - start, count)), constant(0, 8), text.byte(place))
+    is_right = z3.Implies(z3.ULT(place, text.length), after.byte(place) == new)
+    return z3.And(result == status(is_done), is_right)
+
+
+row("put_zeros_to_4", "text: room, from: size, n: size", "u32",
+    PART % "(uint32_t)fty_put_zeros_to_4(&part, span)", wrote_zeros, True)
+for name, it, of in (
+    ("rest", SPANNED.format("part"), lambda start, n, count: start + count),
+    ("length of the rest", "part.length", lambda start, n, count: n - count),
+):
+    row(f"put_zeros_to_4, {name}", "text: room, from: size, n: size", "u64",
+        PART % f"(void)!fty_put_zeros_to_4(&part, span); (uint64_t)({it})",
+        lambda p, text, start, n, of=of: z3.If(
+            z3.And(z3.ULE(start, text.length), z3.ULE(n, text.length - start)),
+            of(start, n, z3.If(zeros(text, start, n)[1], zeros(text, start, n)[0], ZERO)),
+            constant(OUT_OF_BOUNDS)))
+row("put_zeros_to_4, before", "text: room, from: size", "u32",
+    f"({{ {REST} (uint32_t)fty_put_zeros_to_4(&rest, fty_span_from(span, from)); }})",
+    lambda p, text, start, result, after: z3.And(
+        is_kept(text, after), result == status(start == 0)), True)
+always("put_zeros_to_4, absent", "x: u8", "bool",
+       f"({{ fty_span rest = {{NULL, 0}}; fty_put_zeros_to_4(&rest, rest) == {OUT_OF_BOUNDS}"
+       f" && {IS_ABSENT.format('rest')}; }})", 1)
 
 # ---------------------------------------------------------------- parts of a view
 always("absent", "x: u8", "bool",
@@ -224,19 +363,25 @@ def copied(
 
 
 row("write_bytes", "text: room, at: size, other: bytes", "u32",
-    "fty_write_bytes(text, text_length, at, (fty_view){other, other_length})",
+    "fty_write_bytes(fty_span_from(span, at), (fty_view){other, other_length})",
     lambda p, text, at, other, after, result, _: copied(
         text, at, other, ZERO, other.length, result, after), True)
 row("write_bytes, own", "text: room, at: size, from: size, n: size", "u32",
     f"n > text_length || from > text_length - n ? {OUT_OF_BOUNDS}"
-    " : (uint32_t)fty_write_bytes(text, text_length, at, (fty_view){text + from, n})",
+    " : (uint32_t)fty_write_bytes(fty_span_from(span, at), (fty_view){text + from, n})",
     lambda p, text, at, start, n, result, after: copied(
         text, at, text, start, n, result, after), True)
 row("write_bytes, absent", "text: room, at: size", "u32",
-    "fty_write_bytes(text, text_length, at, fty_absent())",
+    "fty_write_bytes(fty_span_from(span, at), fty_absent())",
     lambda p, text, at, result, after: z3.And(
         result == OUT_OF_BOUNDS, is_kept(text, after)), True)
-row("write_bytes, to none", "at: size, other: bytes", "u32",
-    "fty_write_bytes(NULL, 0, at, (fty_view){other, other_length})",
-    lambda p, at, other: status(z3.And(at == 0, other.length == 0)))
+always("write_bytes, to none", "other: bytes", "u32",
+       "fty_write_bytes((fty_span){NULL, 0}, (fty_view){other, other_length})", OUT_OF_BOUNDS)
+OTHER = "fty_put_bytes(&rest, (fty_view){other, other_length})"
+row("put_bytes", "text: room, other: bytes", "u32", f"({{ {REST} (uint32_t){OTHER}; }})",
+    lambda p, text, other, after, result, _: copied(
+        text, ZERO, other, ZERO, other.length, result, after), True)
+moved("put_bytes", ", other: bytes", f"(void)!{OTHER}",
+      lambda p, text, other: z3.If(z3.ULE(other.length, text.length), other.length, ZERO))
+moved("put_bytes, absent", "", "(void)!fty_put_bytes(&rest, fty_absent())", lambda p, text: ZERO)
 # fmt: on

@@ -36,7 +36,7 @@ BUILDS = {
     "default": "-fPIC",
     "checked": "-fPIC -fsanitize=undefined -fsanitize-trap=undefined",
     "big-endian": "--target=s390x-linux-gnu -ffreestanding",
-    "32-bit": "--target=x86_64-linux-gnux32 -ffreestanding",
+    "32-bit": "--target=wasm32-unknown-unknown -ffreestanding",
 }
 HEADER = Path(__file__).resolve().parents[2] / "c/include"
 # The most goals of a row, so that a wrong loop ends. No row has half as many.
