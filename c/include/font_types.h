@@ -28,7 +28,7 @@
  *
  *     quotients     fty_fixed_{div,mul_div}  fty_f26dot6_div
  *     matrices      fty_matrix_{product,image,vector,images}
- *     deltas        fty_delta_{sum,set_sum}  fty_apply_delta_{i16,u16}
+ *     deltas        fty_delta_{sum,set_sum}  fty_checked_add_delta_{i16,u16}
  *     decimals      fty_parse_{i16,i32,i64}  fty_{format,format_padded}
  *                   fty_{fixed,f2dot14,f26dot6}_{parse,format,format_padded}
  *     tags          fty_tag_{new,validate,to_text}
@@ -1194,11 +1194,11 @@ FTY_API_INLINE size_t fty_delta_set_length(
 }
 
 /** Font units plus a 48.16 delta, to the nearest font unit, half up, or FTY_OUT_OF_RANGE. */
-FTY_API_MUST_USE fty_status fty_apply_delta_i16(
+FTY_API_MUST_USE fty_status fty_checked_add_delta_i16(
     int16_t base, int64_t delta, int16_t *units) FTY_API_NOEXCEPT;
 
 /** Unsigned font units, as advances are, plus a 48.16 delta, rounded in the same way. */
-FTY_API_MUST_USE fty_status fty_apply_delta_u16(
+FTY_API_MUST_USE fty_status fty_checked_add_delta_u16(
     uint16_t base, int64_t delta, uint16_t *units) FTY_API_NOEXCEPT;
 
 /* ---- decimal text: `-` if negative, digits, and optionally a point and digits ---- */

@@ -59,8 +59,8 @@ static void sum(void) {
     results += fty_delta_set_sum(scalars, count, set, length == 0 ? 1 : set_length, words,
                                  (int64_t *)place(8));
     const int64_t delta = (int64_t)any() >> any() % 64;
-    results += fty_apply_delta_i16((int16_t)any(), delta, (int16_t *)place(2));
-    results += fty_apply_delta_u16((uint16_t)any(), delta, (uint16_t *)place(2));
+    results += fty_checked_add_delta_i16((int16_t)any(), delta, (int16_t *)place(2));
+    results += fty_checked_add_delta_u16((uint16_t)any(), delta, (uint16_t *)place(2));
 }
 
 static void make_tags(void) {

@@ -313,9 +313,9 @@ RESULT(sum_of_set, int64_t,
        (const int32_t *scalars, size_t count, const uint8_t *set, size_t length, int word_count),
        fty_delta_set_sum(scalars, count, set, length, (uint16_t)word_count, &place))
 RESULT(applied_i16, int16_t, (int16_t base, int64_t delta),
-       fty_apply_delta_i16(base, delta, &place))
+       fty_checked_add_delta_i16(base, delta, &place))
 RESULT(applied_u16, uint16_t, (uint16_t base, int64_t delta),
-       fty_apply_delta_u16(base, delta, &place))
+       fty_checked_add_delta_u16(base, delta, &place))
 
 /* Delta sets: the number of words, the bytes, and the scalars. */
 static const struct {

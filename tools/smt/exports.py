@@ -45,7 +45,7 @@ def moved_by_delta(i: str) -> None:
     """By the rule of `checked_add_delta`. If it fails, what was there stays."""
     number, fit = (S, fits) if i == "i16" else (U, fits_unsigned)
     total = lambda x, y: up(number(x) * 65536 + S(y), 16)
-    stores(f"fty_apply_delta_{i}(x, y, &mut old)", f"x: {i}, y: i64", i,
+    stores(f"fty_checked_add_delta_{i}(x, y, &mut old)", f"x: {i}, y: i64", i,
            lambda p, x, y, old: z3.If(
                fit(16, total(x, y)), answer(z3.BitVecVal(0, 32), wrap(16, total(x, y))),
                answer(z3.BitVecVal(OUT_OF_RANGE, 32), old)))

@@ -26,7 +26,7 @@ pub extern "C" fn fty_delta_sum(scalars: &[i32], deltas: &[i32], sum: &mut i64) 
 
 /// Adds a 48.16 delta to signed font units, and rounds to the nearest font unit, half up.
 #[unsafe(no_mangle)]
-pub extern "C" fn fty_apply_delta_i16(base: i16, delta: i64, units: &mut i16) -> u32
+pub extern "C" fn fty_checked_add_delta_i16(base: i16, delta: i64, units: &mut i16) -> u32
     ensures fits { (result ≡ 0) ↔ ((neg_ℤ (pos 32768) ≤ℤ moved_by base delta)
         × (moved_by base delta <ℤ pos 32768)) }
     ensures stored { result ≡ 0 → units.new ≡ moved_by base delta }
@@ -44,7 +44,7 @@ pub extern "C" fn fty_apply_delta_i16(base: i16, delta: i64, units: &mut i16) ->
 /// Adds a 48.16 delta to unsigned font units, as advances are, and rounds to the nearest font unit,
 /// half up.
 #[unsafe(no_mangle)]
-pub extern "C" fn fty_apply_delta_u16(base: u16, delta: i64, units: &mut u16) -> u32
+pub extern "C" fn fty_checked_add_delta_u16(base: u16, delta: i64, units: &mut u16) -> u32
     ensures fits { (result ≡ 0) ↔ ((pos 0 ≤ℤ moved_by (pos base) delta)
         × (moved_by (pos base) delta <ℤ pos 65536)) }
     ensures stored { result ≡ 0 → pos units.new ≡ moved_by (pos base) delta }

@@ -28,7 +28,7 @@ pub unsafe extern "C" fn fty_delta_sum(
 
 /// Adds a 48.16 delta to signed font units, and rounds to the nearest font unit, half up.
 #[unsafe(no_mangle)]
-pub unsafe extern "C" fn fty_apply_delta_i16(base: i16, delta: i64, units: &mut i16) -> u32 {
+pub unsafe extern "C" fn fty_checked_add_delta_i16(base: i16, delta: i64, units: &mut i16) -> u32 {
     let delta = F48Dot16::from_bits(delta);
     let Some(moved) = FWord::new(base).checked_add_delta(delta) else {
         return OUT_OF_RANGE;
@@ -40,7 +40,7 @@ pub unsafe extern "C" fn fty_apply_delta_i16(base: i16, delta: i64, units: &mut 
 /// Adds a 48.16 delta to unsigned font units, as advances are, and rounds to the nearest font unit,
 /// half up.
 #[unsafe(no_mangle)]
-pub unsafe extern "C" fn fty_apply_delta_u16(base: u16, delta: i64, units: &mut u16) -> u32 {
+pub unsafe extern "C" fn fty_checked_add_delta_u16(base: u16, delta: i64, units: &mut u16) -> u32 {
     let delta = F48Dot16::from_bits(delta);
     let Some(moved) = UfWord::new(base).checked_add_delta(delta) else {
         return OUT_OF_RANGE;
