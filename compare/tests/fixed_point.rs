@@ -4,6 +4,7 @@
 use compare::exact::{self, up, wrap};
 use compare::{Random, assert_same, edges, sampled};
 use font_types_proved::{Align, F2Dot30, Pad};
+use std::fmt::{Debug, Display};
 
 macro_rules! each_type {
     ($($name:ident $Type:ident $bits:ident $f:literal;)*) => {$(
@@ -26,6 +27,7 @@ macro_rules! each_type {
                 let ours = font_types_proved::$Type::from_bits(bits);
                 assert_eq!(ours.to_string(), exact::shortest(bits.into(), $f), "{bits}");
                 let theirs = font_types::$Type::from_bits(bits);
+                assert_eq!(formatted(ours), formatted(theirs), "{bits}");
                 let texts = [
                     format!("{theirs:>12}"),
                     format!("{theirs:*<9}"),
@@ -80,6 +82,13 @@ each_type! {
     fixed Fixed i32 16;
     f26dot6 F26Dot6 i32 6;
     f48dot16 F48Dot16 i64 16;
+}
+
+/// Returns the text of a number under the flags that both packages obey.
+fn formatted(x: impl Debug + Display) -> String {
+    let sides = format!("{x:>12}|{x:<12}|{x:^12}|{x:12}|{x:1}|{x:*^12}|{x:\u{E9}<12}|{x:+}|{x:-}");
+    let zeros = format!("{x:012}|{x:+012}|{x:<012}|{x:*^+012}|{x:#}|{x:#012}|{x:+12}");
+    format!("{sides}|{zeros}|{x:12?}|{x:+?}|{x:#?}|{:^+12?}", Some(&x))
 }
 
 fn pads() -> [Pad; 4] {

@@ -71,10 +71,13 @@ macro_rules! of_each_type {
         }
 
         #[test]
-        fn ignored_flags() {
+        fn ignored_precisions() {
             $(for raw in edges($bits::BITS) {
                 let x = here::$Type::from_bits(raw as $bits);
-                assert_eq!(format!("{x:+} {x:50} {x:.2}"), format!("{x} {x} {x}"));
+                assert_eq!(format!("{x:.2} {x:+.0} {x:9.40}"), format!("{x} {x:+} {x:9}"));
+                // `{:.2}` of `x.to_f64()`.
+                let (x, y) = (x.to_f64(), there::$Type::from_bits(raw as $bits));
+                assert_eq!(format!("{x:.2} {x:+.0} {x:9.40}"), format!("{y:.2} {y:+.0} {y:9.40}"));
             })*
         }
     };

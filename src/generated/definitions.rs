@@ -139,22 +139,32 @@ pub mod font_decimal {
 
     /// A text that is padded to a width. OpenType has no such rule; std's format specifications have the same alignments.
     ///
-    /// In the order of `crates/font_decimal/specs/Padding.antt`: [`shown_sign`](mod@Padding::shown_sign), [`unsigned_body`](mod@Padding::unsigned_body), [`spare_in_front`](mod@Padding::spare_in_front), [`laid_out`](mod@Padding::laid_out), [`padded_text`](mod@Padding::padded_text), [`FillsFront`](mod@Padding::FillsFront).
+    /// In the order of `crates/font_decimal/specs/Padding.antt`: [`has_minus`](mod@Padding::has_minus), [`shown_sign`](mod@Padding::shown_sign), [`unsigned_body`](mod@Padding::unsigned_body), [`spare_in_front`](mod@Padding::spare_in_front), [`laid_out`](mod@Padding::laid_out), [`padded_text`](mod@Padding::padded_text), [`FillsFront`](mod@Padding::FillsFront).
     pub mod Padding {
+        /// the text begins with a `-`
+        ///
+        /// ```text
+        /// abbrev has_minus : List ℕ → Bool
+        /// has_minus text = slice_index text 0 == 45
+        /// ```
+        pub mod has_minus {}
+
         /// the sign to write: the text's own `-`, otherwise a `+` if requested
         ///
         /// ```text
         /// abbrev shown_sign : Bool → List ℕ → List ℕ
-        /// shown_sign plus text = if slice_index text 0 == 45 then 45 ∷ [] else (if plus then 43 ∷ [] else [])
+        /// shown_sign plus text = if has_minus text then 45 ∷ [] else (if plus then 43 ∷ [] else [])
         /// ```
+        /// [`has_minus`]
         pub mod shown_sign {}
 
         /// the text without its `-`
         ///
         /// ```text
         /// abbrev unsigned_body : List ℕ → List ℕ
-        /// unsigned_body text = if slice_index text 0 == 45 then drop 1 text else text
+        /// unsigned_body text = if has_minus text then drop 1 text else text
         /// ```
+        /// [`has_minus`]
         pub mod unsigned_body {}
 
         /// how many padding bytes go on the left

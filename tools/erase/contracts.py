@@ -19,7 +19,7 @@ IMPORT = re.compile(r"\bghost use Rattle\.([\w.]+)\.\{([^}]*)\};")
 # are proofs. That of a constant is what Rust says.
 SHOWN = re.compile(
     r"\w+_gives|can_\w+|cmp|debug_output|decodes|eq|hash_input|is_compatible|is_default|is_scalar|"
-    r"bytes|is_value|number_of|of_raw|output|partial_cmp|raw_of|remaining"
+    r"bytes|is_value|number_of|of_raw|(styled_)?output|partial_cmp|raw_of|remaining"
 )
 HIDDEN = set(
     "identity is_clone is_infallible laws least length_is matches_eq matches_partial_cmp most "

@@ -40,8 +40,8 @@ COUNTS = [
     ("tests/", ".rs", "return;", 0),
     ("tests/", ".rs", "/*", 0),
     ("crates/", ".rt", "\nmod ", 112),
-    ("crates/", ".edit", "# clause: ", 292),
-    ("crates/", ".edit", "# control: ", 74),
+    ("crates/", ".edit", "# clause: ", 294),
+    ("crates/", ".edit", "# control: ", 76),
     ("crates/fontval/", "stdin", "\n", 213),
     ("c/tests/", ".sh", "\n", 423),
 ]

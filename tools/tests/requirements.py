@@ -49,7 +49,7 @@ class Requirements(unittest.TestCase):
                     told = f"requirements.md cites what {PATHS[label]} does not have: {literal}"
                     self.assertTrue(has(codes[label], in_one_line(literal)), told)
         counts = "rows and literals of requirements.md. If you added some on purpose, change this"
-        self.assertEqual((rows, literals), (234, 699), counts)
+        self.assertEqual((rows, literals), (234, 701), counts)
         # Those are required that say so, and each stands where the page says.
         says = "\n# required by tools/tests/requirements.md\n"
         edits = {edit: edit.read_text() for edit in ROOT.glob("crates/*/must-fail/*.edit")}

@@ -4,8 +4,10 @@ use Rattle.std.proofs.Common.{refl, sym, ◌∙◌, arith, append_assoc, length-
 use Rattle.std.proofs.Common.{drop_at, drop-drop, eqb}
 use Rattle.std.proofs.lemmas.List.{drop_all, length-replicate}
 use Rattle.std.proofs.{lemmas.Bool.Decides.nat_tests, lemmas.Str.Pattern.strip_prefix_char}
-use Rattle.std.specs.Str.Pattern.{FindsCharPrefix}
-use Rattle.font_decimal.specs.Padding.{shown_sign, unsigned_body, spare_in_front, laid_out, padded_text, FillsFront}
+use Rattle.std.specs.Fmt.{spec_width, spec_sign_plus, padded_integral, sign_text}
+use Rattle.std.specs.{Str.Pattern.FindsCharPrefix, Option.is_some}
+use Rattle.font_decimal.specs.Padding.{has_minus, shown_sign, unsigned_body, spare_in_front, laid_out, padded_text}
+use Rattle.font_decimal.specs.Padding.{FillsFront}
 use Rattle.font_decimal.specs.{declared.padding.Align.Align, declared.padding.Pad.Pad}
 
 -- a text that does not begin with `-`
@@ -59,3 +61,14 @@ pub fills_all : {n : ℕ} {old new : List ℕ} (text : List ℕ) (pad : Pad) →
     → length old ≤ pad.width → new ≡ padded_text text pad
 fills_all {n = n} {old = old} text pad front narrow =
     front.bytes ∙ rw (drop_all n old (omega (arith, padded_length text pad, front.count)), append-nil)
+
+-- a text is its sign and its body
+sign_and_body : (text : List ℕ) → sign_text (has_minus text) ++ unsigned_body text ≡ text
+sign_and_body [] = refl
+sign_and_body (c ∷ cs) = grind (arith, nat_tests)
+
+-- with no width and no `+`, a number is its text
+pub bare_number : (s : _) (text : List ℕ) → is_some (spec_width s) ≡ false → spec_sign_plus s ≡ false
+    → padded_integral s (has_minus text) [] (unsigned_body text) ≡ text
+unfolding padded_integral
+bare_number s text width plus = grind (arith, nat_tests, append-nil, sign_and_body text)

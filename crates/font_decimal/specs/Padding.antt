@@ -4,13 +4,17 @@ use Rattle.std.specs.Prelude.{◌==◌, if◌then◌else◌}
 use Rattle.font_decimal.specs.declared.padding.Align.TheVariants.{Left, Right, Center}
 use Rattle.font_decimal.specs.{declared.padding.Align.Align, declared.padding.Pad.Pad}
 
+-- the text begins with a `-`
+abbrev pub has_minus : List ℕ → Bool
+has_minus text = slice_index text 0 == 45
+
 -- the sign to write: the text's own `-`, otherwise a `+` if requested
 abbrev pub shown_sign : Bool → List ℕ → List ℕ
-shown_sign plus text = if slice_index text 0 == 45 then 45 ∷ [] else (if plus then 43 ∷ [] else [])
+shown_sign plus text = if has_minus text then 45 ∷ [] else (if plus then 43 ∷ [] else [])
 
 -- the text without its `-`
 abbrev pub unsigned_body : List ℕ → List ℕ
-unsigned_body text = if slice_index text 0 == 45 then drop 1 text else text
+unsigned_body text = if has_minus text then drop 1 text else text
 
 -- how many padding bytes go on the left
 abbrev pub spare_in_front : Align → ℕ → ℕ

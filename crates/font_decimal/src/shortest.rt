@@ -75,12 +75,23 @@ impl Shortest {
 }
 
 impl fmt::Display for Shortest {
-    ghost use Rattle.font_decimal.specs.Shown.{shown};
+    ghost use Rattle.std.specs.{Prelude.[], Fmt.padded_integral};
+    ghost use Rattle.font_decimal.specs.{Shown.shown, Padding.has_minus, Padding.unsigned_body};
 
     ghost output = { λ s. Some (shown s) };
 
+    ghost styled_output = { λ s options. Some
+        (padded_integral options (has_minus (shown s)) [] (unsigned_body (shown s))) };
+
     fn fmt<W: fmt::Write>(&self, f: &mut fmt::Formatter<W>) -> fmt::Result {
-        f.write_str(self.as_str())
+        let text = self.as_str();
+        if f.width().is_none() && !f.sign_plus() {
+            return f.write_str(text);
+        }
+        match text.strip_prefix('-') {
+            Some(digits) => f.pad_integral(false, "", digits),
+            None => f.pad_integral(true, "", text),
+        }
     }
 }
 

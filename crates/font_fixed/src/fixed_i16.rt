@@ -2,10 +2,10 @@
 #![tactic(auto, using(crate::proofs::Rules::number_code))]
 
 ghost use Rattle.std.specs.Prelude.{◌≡◌, ◌≤◌, ◌↔◌, ◌/◌, ◌^◌, ℤ, pos, neg_ℤ, ◌+ℤ◌, ◌-ℤ◌, ◌≤ℤ◌, ◌<ℤ◌};
-ghost use Rattle.std.specs.Prelude.{Some, IsSome, IfSome, IfNone, length, max, unsigned_abs};
-ghost use Rattle.std.specs.Int.{w16};
+ghost use Rattle.std.specs.Prelude.{[], Some, IsSome, IfSome, IfNone, length, max, unsigned_abs};
+ghost use Rattle.std.specs.{Int.w16, Fmt.padded_integral};
 ghost use Rattle.font_base.specs.{Wrap.FitsBits, Bytes.bytes_of};
-ghost use Rattle.font_decimal.specs.Padding.{padded_text, FillsFront};
+ghost use Rattle.font_decimal.specs.Padding.{has_minus, unsigned_body, padded_text, FillsFront};
 ghost use Rattle.font_decimal.specs.{Shortest.IsShortest, Shown.shown};
 ghost use Rattle.font_fixed.specs.Operations.{WrapsTo, IsNearestWhole, IsIntegral, IsFloor};
 ghost use Rattle.font_fixed.specs.Operations.{IsFract, IsCeiling, IsWrappedCeiling, ceiling_of};
@@ -431,13 +431,16 @@ where
     }
 }
 
-/// Writes the text of [`to_decimal`](FixedI16::to_decimal). Width, fill, sign and precision are
-/// ignored: [`write_padded`](FixedI16::write_padded) pads.
+/// Writes the text of [`to_decimal`](FixedI16::to_decimal). Width, fill, alignment, `+` and `0` pad
+/// it as they pad an integer, and a precision is ignored.
 impl<const F: u32> fmt::Display for FixedI16<F>
 where
     Self: Format<16, F>,
 {
     ghost output = { λ x. Some (text_of x) };
+
+    ghost styled_output = { λ x options. Some
+        (padded_integral options (has_minus (text_of x)) [] (unsigned_body (text_of x))) };
 
     fn fmt<W: fmt::Write>(&self, f: &mut fmt::Formatter<W>) -> fmt::Result {
         fmt::Display::fmt(&self.to_decimal(), f)

@@ -4,6 +4,7 @@
 
 #[cfg(doc)]
 use crate::definitions::font_decimal::{
+    Padding::{has_minus, unsigned_body},
     Shortest::{IsShortest, shortest_text},
     Shown::shown,
 };
@@ -96,12 +97,21 @@ impl Shortest {
 ///
 /// ```text
 /// ghost output = { λ s. Some (shown s) };
+/// ghost styled_output = { λ s options. Some
+///     (padded_integral options (has_minus (shown s)) [] (unsigned_body (shown s))) };
 /// ```
-/// [Notation](crate::definitions): [`shown`]
+/// [Notation](crate::definitions): [`shown`], [`has_minus`], [`unsigned_body`]
 /// </details>
 impl fmt::Display for Shortest {
     fn fmt(&self, f: &mut fmt::Formatter<'_>) -> fmt::Result {
-        f.write_str(self.as_str())
+        let text = self.as_str();
+        if f.width().is_none() && !f.sign_plus() {
+            return f.write_str(text);
+        }
+        match text.strip_prefix('-') {
+            Some(digits) => f.pad_integral(false, "", digits),
+            None => f.pad_integral(true, "", text),
+        }
     }
 }
 

@@ -9,7 +9,7 @@ use crate::definitions::font_base::{
 };
 #[cfg(doc)]
 use crate::definitions::font_decimal::{
-    Padding::{FillsFront, padded_text},
+    Padding::{FillsFront, has_minus, padded_text, unsigned_body},
     Shortest::IsShortest,
     Shown::shown,
 };
@@ -621,15 +621,17 @@ where
     }
 }
 
-/// Writes the text of [`to_decimal`](FixedI16::to_decimal). Width, fill, sign and precision are
-/// ignored: [`write_padded`](FixedI16::write_padded) pads.
+/// Writes the text of [`to_decimal`](FixedI16::to_decimal). Width, fill, alignment, `+` and `0` pad
+/// it as they pad an integer, and a precision is ignored.
 ///
 /// <details><summary>Contract</summary>
 ///
 /// ```text
 /// ghost output = { λ x. Some (text_of x) };
+/// ghost styled_output = { λ x options. Some
+///     (padded_integral options (has_minus (text_of x)) [] (unsigned_body (text_of x))) };
 /// ```
-/// [Notation](crate::definitions): [`text_of`]
+/// [Notation](crate::definitions): [`text_of`], [`has_minus`], [`unsigned_body`]
 /// </details>
 impl<const F: u32> fmt::Display for FixedI16<F>
 where

@@ -1,5 +1,5 @@
-//! What no clause says: printing ignores flags. Also, each value of 16 bits parses back from its
-//! text.
+//! What no clause says: `Debug` obeys flags as `Display` does. Also, each value of 16 bits parses
+//! back from its text.
 
 use font_decimal::DecimalFault;
 use font_fixed::*;
@@ -8,21 +8,49 @@ use std::fmt::{Debug, Display};
 use std::str::FromStr;
 use std::test::Fail;
 
-/// Returns whether `number` prints as `text`, whatever the flags, and `text` parses back.
+/// Returns whether `number` prints as `text`, whatever the precision, and `text` parses back.
 fn prints<T>(alloc: Global, number: T, text: &str) -> Result<bool, AllocError>
 where
     T: Copy + PartialEq + Display + Debug + FromStr<Err = DecimalFault>,
 {
-    let forms = format!(in alloc; "{number}|{number:8}|{number:.0}|{number:+}|{number:?}")?;
+    let forms = format!(in alloc; "{number}|{number:3}|{number:.0}|{number:#}|{number:?}")?;
     Ok(forms.as_str().split('|').all(|form| form == text) && text.parse() == Ok(number))
+}
+
+/// Returns whether these are the texts of `number` in width 9: at each side and in the middle, with
+/// a sign, and with zeros.
+fn fills<T: Copy + Display + Debug>(
+    alloc: Global,
+    number: T,
+    text: &str,
+) -> Result<bool, AllocError> {
+    let sides = format!(in alloc; "{number:9}|{number:<9}|{number:*^9}|{number:9?}")?;
+    let signs = format!(in alloc; "{number:+}|{number:+9}|{number:09}|{number:<+09}")?;
+    let texts = format!(in alloc; "{sides}|{signs}")?;
+    Ok(texts.as_str() == text)
 }
 
 #[test]
 fn texts_with_flags(rt: HostRuntime) -> Result<(), Fail> {
     let alloc = rt.alloc();
-    assert!(rt; prints(alloc, F2Dot14::from_bits(-10139), "-0.61884")?);
-    assert!(rt; prints(alloc, Fixed::from_bits(0x1_8000), "1.5")?);
+    let (negative, number) = (F2Dot14::from_bits(-10139), Fixed::from_bits(0x1_8000));
+    assert!(rt; prints(alloc, negative, "-0.61884")?);
+    assert!(rt; prints(alloc, number, "1.5")?);
     assert!(rt; prints(alloc, F48Dot16::from_bits(39322), "0.6")?);
+    assert!(rt;
+        fills(
+            alloc,
+            number,
+            "      1.5|1.5      |***1.5***|      1.5|+1.5|     +1.5|0000001.5|+000001.5"
+        )?
+    );
+    assert!(rt;
+        fills(
+            alloc,
+            negative,
+            " -0.61884|-0.61884 |-0.61884*| -0.61884|-0.61884| -0.61884|-00.61884|-00.61884"
+        )?
+    );
     Ok(())
 }
 
