@@ -260,6 +260,8 @@ impl<T: Scalar + Copy + fmt::Display> fmt::Display for BigEndian<T> {
 
     ghost output = { λ field. T.output (T.of_raw (raw_value field)) };
 
+    ghost styled_output = { λ field. T.styled_output (T.of_raw (raw_value field)) };
+
     fn fmt<W: fmt::Write>(&self, f: &mut fmt::Formatter<W>) -> fmt::Result {
         fmt::Display::fmt(&self.get(), f)
     }

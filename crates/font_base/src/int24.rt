@@ -1,7 +1,8 @@
 //! 24-bit signed integers.
 
 ghost use Rattle.std.specs.Prelude.{◌≡◌, ◌≤ℤ◌, ◌<ℤ◌, ◌↔◌, ◌++◌, pos, neg_ℤ, Some, IsSome, IfSome};
-ghost use Rattle.std.specs.{Int.int_min, Int.int_max, Fmt.signed_decimal};
+ghost use Rattle.std.specs.{Int.int_min, Int.int_max};
+ghost use Rattle.std.specs.Fmt.{signed_decimal, styled_signed_decimal};
 ghost use lib.Chars.{codes};
 
 use crate::raw::{FixedSize, IdentityEq, Scalar};
@@ -107,6 +108,8 @@ impl fmt::Display for Int24 {
     ghost use Rattle.font_base.specs.Int24.{int24_number};
 
     ghost output = { λ n. Some (signed_decimal (int24_number n)) };
+
+    ghost styled_output = { λ n options. Some (styled_signed_decimal options (int24_number n)) };
 
     fn fmt<W: fmt::Write>(&self, f: &mut fmt::Formatter<W>) -> fmt::Result {
         fmt::Display::fmt(&self.value, f)

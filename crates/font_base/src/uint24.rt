@@ -2,7 +2,7 @@
 
 ghost use Rattle.std.specs.Prelude.{◌≡◌, ◌≤◌, ◌<◌, ◌^◌, ◌↔◌, ◌++◌, min, pos, Some, IsSome, IfSome};
 ghost use Rattle.std.specs.Prelude.{MatchResult};
-ghost use Rattle.std.specs.Fmt.{decimal};
+ghost use Rattle.std.specs.Fmt.{decimal, styled_decimal};
 ghost use lib.Chars.{codes};
 
 use crate::raw::{FixedSize, IdentityEq, Scalar};
@@ -105,6 +105,8 @@ impl fmt::Display for Uint24 {
     ghost use Rattle.font_base.specs.Uint24.{uint24_number};
 
     ghost output = { λ n. Some (decimal (uint24_number n)) };
+
+    ghost styled_output = { λ n options. Some (styled_decimal options (uint24_number n)) };
 
     fn fmt<W: fmt::Write>(&self, f: &mut fmt::Formatter<W>) -> fmt::Result {
         fmt::Display::fmt(&self.value, f)

@@ -299,6 +299,7 @@ impl<T: Scalar + Default> Default for BigEndian<T> {
 ///
 /// ```text
 /// ghost output = { λ field. T.output (T.of_raw (raw_value field)) };
+/// ghost styled_output = { λ field. T.styled_output (T.of_raw (raw_value field)) };
 /// ```
 /// [Notation](crate::definitions): [`raw_value`]
 /// </details>

@@ -164,6 +164,7 @@ impl fmt::Debug for Int24 {
 ///
 /// ```text
 /// ghost output = { λ n. Some (signed_decimal (int24_number n)) };
+/// ghost styled_output = { λ n options. Some (styled_signed_decimal options (int24_number n)) };
 /// ```
 /// [Notation](crate::definitions): [`int24_number`]
 /// </details>

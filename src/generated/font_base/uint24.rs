@@ -152,6 +152,7 @@ impl fmt::Debug for Uint24 {
 ///
 /// ```text
 /// ghost output = { λ n. Some (decimal (uint24_number n)) };
+/// ghost styled_output = { λ n options. Some (styled_decimal options (uint24_number n)) };
 /// ```
 /// [Notation](crate::definitions): [`uint24_number`]
 /// </details>
