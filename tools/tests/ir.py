@@ -168,6 +168,38 @@ from ir import Module
 print(json.dumps([*Module(json.load(sys.stdin)).constants]))
 """
 
+# Prints the types of parameters, of a slice, through which a function may store.
+STORES = """
+import json, z3
+from arithmetic import Arithmetic
+from execution import Machine
+from inputs import ELEMENTS, inputs
+from ir import Module
+from row import Case
+from rules import Products
+from state import Goals
+
+TEXT = '''
+define i32 @f(ptr %p, i64 %n) {
+start:
+  store i8 1, ptr %p, align 1
+  ret i32 0
+}
+'''
+
+def is_right(type_):
+    arithmetic, goals = Arithmetic(), []
+    made = inputs(Case("", [("p", type_)], "", "", None, False, ""), Products(arithmetic))
+    has_room = [*made.conditions, made.variables["p_length"] > 0]
+    machine = Machine(Module(TEXT), arithmetic, Goals(lambda why, it: goals.append(z3.And(it))))
+    list(machine.run("@f", made.arguments, made.memory, has_room))
+    solver = z3.Solver()
+    solver.add(z3.Or(goals))
+    return solver.check() == z3.unsat
+
+print(json.dumps([it for it in ELEMENTS if is_right(it)]))
+"""
+
 
 def told(script: str, given: object = None) -> Any:
     """Returns what a script with the files of the second proof prints."""
@@ -198,3 +230,6 @@ class Reader(unittest.TestCase):
     def test_a_variable_is_no_constant(self) -> None:
         self.assertEqual(told(CONSTANTS, VARIABLE), [])
         self.assertEqual(told(CONSTANTS, VARIABLE.replace("global", "constant")), ["@KEPT"])
+
+    def test_only_a_room_is_stored_to(self) -> None:
+        self.assertEqual(told(STORES), ["room"])

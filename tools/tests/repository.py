@@ -33,7 +33,7 @@ COUNTS = [
     ("tests/", ".rs", "#[test]\n", 211),
     ("compare/tests/", ".rs", "#[test]\n", 37),
     ("crates/", ".rt", "#[test]\n", 151),
-    ("tools/tests/", ".py", "\n    def test_", 28),
+    ("tools/tests/", ".py", "\n    def test_", 29),
     ("tests/", ".rs", "#[ignore", 0),
     ("compare/tests/", ".rs", "#[ignore", 0),
     ("tests/", ".rs", "#[cfg", 11),
