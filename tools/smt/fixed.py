@@ -10,7 +10,7 @@ from rules import (
 )  # fmt: skip
 
 # fmt: off
-# ---------------------------------------------------------------- what all seven formats have
+# ---------------------------------------------------------------- what all formats have
 
 
 def of_two(T: str, w: int, op: str, sign: str, calc: Rule) -> None:
