@@ -1,7 +1,6 @@
 """The repository: what its pages name, link to and show is there; its package is whole and of one
-version; and no test, mutant or stored line is lost."""
+version; and its source makes no error of its own."""
 
-import collections
 import pathlib
 import re
 import subprocess
@@ -25,26 +24,6 @@ OTHERS = (
     "__udivti3 FT_Matrix_Invert bytemuck cast_slice get_mut size_of strip_suffix type_name "
     "bit_and round_steps from_steps scalar_at"
 )
-
-# How many tests, modules, mutants and stored lines there are, and conditions, returns and blocks of
-# comments in tests: a commit that adds or removes one changes its number here. A path, the ending
-# of its files, and a text.
-COUNTS = [
-    ("tests/", ".rs", "#[test]\n", 211),
-    ("compare/tests/", ".rs", "#[test]\n", 37),
-    ("crates/", ".rt", "#[test]\n", 151),
-    ("tools/tests/", ".py", "\n    def test_", 29),
-    ("tests/", ".rs", "#[ignore", 0),
-    ("compare/tests/", ".rs", "#[ignore", 0),
-    ("tests/", ".rs", "#[cfg", 11),
-    ("tests/", ".rs", "return;", 0),
-    ("tests/", ".rs", "/*", 0),
-    ("crates/", ".rt", "\nmod ", 112),
-    ("crates/", ".edit", "# clause: ", 294),
-    ("crates/", ".edit", "# control: ", 76),
-    ("crates/fontval/", "stdin", "\n", 213),
-    ("c/tests/", ".sh", "\n", 423),
-]
 
 # Items of which no test of Rattle shows what they lack: the crate, and the code in one line.
 ITEMS = [
@@ -178,20 +157,11 @@ class Pages(unittest.TestCase):
         for alias, name in aliases:
             self.assertRegex(cells[alias], rf"`\W*{name}\b", alias)
 
-    def test_lines_of_definitions(self) -> None:
-        """EVIDENCE has a row for each crate with definitions, but `callers` and `font_fixed2`."""
-        counted: collections.Counter[str] = collections.Counter()
-        for path in of("crates/", ".antt"):
-            if of_crate := re.fullmatch(r"crates/(\w+)/specs/\w+\.antt", path):
-                counted[of_crate[1]] += text(path).count("\n")
-        del counted["callers"], counted["font_fixed2"]
-        rows = re.findall(r"\n\| \[(\w+)\]\(\S+/specs\) \| (\d+) \|", text("docs/EVIDENCE.md"))
-        self.assertEqual({name for name, _ in rows}, counted.keys())
-        wrong = [
-            f"{name}: {n}" for name, n in sorted(counted.items()) if (name, str(n)) not in rows
-        ]
-        if wrong:
-            self.fail("\n".join(["write in the first table of docs/EVIDENCE.md:", *wrong]))
+    def test_crates_with_definitions(self) -> None:
+        """EVIDENCE has a row for each, but for `callers` and `font_fixed2`."""
+        crates = {path.split("/")[1] for path in of("crates/", ".antt") if "/specs/" in path}
+        rows = re.findall(r"\n\| \[(\w+)\]\(\S+/specs\) \|", text("docs/EVIDENCE.md"))
+        self.assertEqual({*rows, "callers", "font_fixed2"}, crates)
 
     def test_signs_and_words_of_contracts(self) -> None:
         """The legend has each sign, each member of a callback, each case of an `Option` or a
@@ -284,17 +254,7 @@ class Package(unittest.TestCase):
         self.assertEqual(missing, ["SampleHeader", "TTC_HEADER_TAG"])
 
 
-class Census(unittest.TestCase):
-    def test_none_is_lost(self) -> None:
-        wrong = []
-        for start, ending, what, number in COUNTS:
-            contents = [(ROOT / path).read_bytes() for path in of(start, ending)]
-            found = sum(it.count(what.encode()) for it in contents)
-            if found != number:
-                wrong.append(f'("{start}", "{ending}", {what!r}, {number}): there are {found}')
-        if wrong:
-            self.fail("\n".join(["if you meant to add or remove them, change COUNTS:", *wrong]))
-
+class Items(unittest.TestCase):
     def test_items(self) -> None:
         for path, item in ITEMS:
             lines = [line.strip() for line in text(f"crates/{path}").splitlines()]

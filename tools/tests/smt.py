@@ -102,10 +102,8 @@ class SecondProof(unittest.TestCase):
         known = calls()
         places = [(it.place(known), it.text) for it in functions()]
         self.assertEqual([text for place, text in places if place is None], [])
-        page = (ROOT / "docs/EVIDENCE.md").read_text().split("| Public functions | Number |")[1]
-        table = dict(re.findall(r"^\| (.*) \| (\d+) \|$", page.split("\n\n")[0], re.M))
-        counts = collections.Counter(place for place, _ in places)
-        self.assertEqual({place: str(count) for place, count in counts.items()}, table)
+        page = (ROOT / "docs/EVIDENCE.md").read_text()
+        self.assertEqual([rule for rule in RULES if rule not in page], [])
 
     def test_each_export_of_numbers_has_a_row(self) -> None:
         """Those without a row take an array, or nothing. EVIDENCE lists them."""
@@ -114,9 +112,12 @@ class SecondProof(unittest.TestCase):
         self.assertEqual(len(every), sum(it.count("#[unsafe(no_mangle)]") for it in sources))
         without = {name: parameters for name, parameters, at in every if at not in known}
         page = (ROOT / "docs/EVIDENCE.md").read_text()
-        count = f"{len(every) - len(without)} of the {len(every)} exports for C"
-        self.assertTrue(f"- {count}" in page, f"write in docs/EVIDENCE.md: {count}")
         listed = page.split("does not show:")[1].split(";")[0]
         self.assertEqual(sorted(without), sorted(re.findall(r"`(fty_\w+)`", listed)))
         for name, parameters in without.items():
             self.assertRegex(parameters, r": \*(const|mut) |^\(\)$", name)
+
+
+if __name__ == "__main__":
+    for place, count in collections.Counter(it.place(calls()) for it in functions()).most_common():
+        print(count, place)
