@@ -12,8 +12,8 @@ link/lib/x/cmake/font_types/font_types-config-version.cmake 644
 link/lib/x/cmake/font_types/font_types-config.cmake 644 
 link/lib/x/libfont_types.a 644 
 link/lib/x/libfont_types.so 777 libfont_types.so.$version
-link/lib/x/libfont_types.so.$version 777 libfont_types.so.$version.0
-link/lib/x/libfont_types.so.$version.0 644 
+link/lib/x/libfont_types.so.$version 777 libfont_types.so.$full
+link/lib/x/libfont_types.so.$full 644 
 link/lib/x/pkgconfig/font_types.pc 644 " ]]
 staged=$work/stage$work/link/lib/x/pkgconfig
 [[ $(sed 3q "$staged/font_types.pc") == \

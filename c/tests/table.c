@@ -61,7 +61,7 @@ typedef char values[FTY_OK == 0 && FTY_NOT_DECIMAL == 1 && FTY_OUT_OF_RANGE == 2
                             && FTY_TOO_MANY == 8 && FTY_TAG_LENGTH == 10
                             && FTY_TAG_BYTE == 11 && FTY_TAG_AFTER_SPACE == 12 && FTY_LEFT == 0
                             && FTY_CENTER == 1 && FTY_RIGHT == 2 && FTY_DECIMAL_ROOM == 24
-                            && FTY_TAG_ROOM == 25 && FTY_VERSION_NUMBER == 0x000900
+                            && FTY_TAG_ROOM == 25
                             && FTY_TAG('c', 'v', 't', ' ') == 0x63767420
                         ? 1
                         : -1];
@@ -435,7 +435,6 @@ int main(int count, char **arguments) {
     if (count > 1)
         check(arguments[1], 0, 1, 2);
     check("version", 0, fty_version(), FTY_VERSION_NUMBER);
-    check("version", 1, strcmp(FTY_VERSION, "0.9.0"), 0);
     check_decimals();
     check_numbers();
     check_exports();
