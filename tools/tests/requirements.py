@@ -1,4 +1,4 @@
-"""Each row of requirements.md is shown by literals in a test, or by a mutant."""
+"""Each row of requirements.md names tests that are there and run, or mutants."""
 
 import pathlib
 import re
@@ -8,56 +8,54 @@ ROOT = pathlib.Path(__file__).resolve().parents[2]
 PAGE = (ROOT / "tools/tests/requirements.md").read_text()
 PATHS = dict(re.findall(r"^\[(.*)\]: ../../(.*)$", PAGE, re.MULTILINE))
 
-
-def in_one_line(text: str) -> str:
-    """Returns the code of a text in one line, as if no bracket were on a line of its own."""
-    code = " ".join(
-        " ".join(line for line in text.splitlines() if not line.strip().startswith("//")).split()
-    )
-    return re.sub(r",? ([)\]])", r"\1", re.sub(r"([(\[]) ", r"\1", code))
+# The attributes that a test may have: of the second and the third kind, one runs in a part of the
+# builds alone.
+ATTRIBUTES = r"#\[(test|cfg\((unix|target_os = \"linux\")\)|cfg_attr\(debug_assertions, ignore.*)\]"
 
 
-def has(code: str, literal: str) -> bool:
-    """Returns whether the code has a literal, or `fn NAME .. LITERAL` in this function."""
-    function, dots, row = literal.partition(" .. ")
-    if not dots:
-        return literal in code
-    return row in code.partition(f"{function}(")[2].split("#[test]")[0]
+def is_compiled(path: str) -> bool:
+    """Returns whether each folder of modules above a file in Rattle names the next."""
+    file = pathlib.Path(path)
+    while file.suffix == ".rt" and file.stem not in ("lib", "main"):
+        above = file.parent.with_suffix(".rt")
+        if file.parent.name == "src":
+            (above,) = [
+                it for it in map(file.with_name, ("lib.rt", "main.rt")) if (ROOT / it).exists()
+            ]
+        if not re.search(rf"^mod {file.stem};$", (ROOT / above).read_text(), re.MULTILINE):
+            return False
+        file = above
+    return True
+
+
+def runs(path: str, name: str) -> bool:
+    """Returns whether a file has this test and is compiled; of another file, whether it has the
+    name."""
+    text = (ROOT / path).read_text()
+    if path.endswith(".py"):
+        return f"    def {name}(self)" in text
+    if not path.endswith((".rs", ".rt")):
+        return re.search(rf"(?<!\w){name}(?!\w)", text) is not None
+    found = re.search(rf"((?:^ *#\[.*\]\n)*)^ *fn {name}\(", text, re.MULTILINE)
+    attributes = found[1].split("\n")[:-1] if found else []
+    is_known = all(re.fullmatch(ATTRIBUTES, it.strip()) for it in attributes)
+    return "#[test]" in "".join(attributes) and is_known and is_compiled(path)
 
 
 class Requirements(unittest.TestCase):
     def test_rows_are_shown(self) -> None:
-        lines, answers = [
-            (ROOT / f"crates/fontval/{name}").read_bytes().split(b"\n")
-            for name in ("stdin", "stdout")
-        ]
-        stored = dict(zip(lines, answers))
-        texts = {label: (ROOT / path).read_text(errors="replace") for label, path in PATHS.items()}
-        codes = {label: in_one_line(text) for label, text in texts.items()}
-        mutants, rows, literals = [], 0, 0
-        for row in re.findall(r"^\| .* \| (?:(?=\[)|(?=`))(.*) \|$", PAGE, re.MULTILINE):
-            rows += 1
-            for label, shown in re.findall(r"(?:\[([^\]]*)\] )?((?:`[^`]*` ?)+)", row):
-                shown = [it.replace("\\|", "|") for it in re.findall("`([^`]*)`", shown)]
-                literals += len(shown)
-                if not label:
-                    mutants += shown
-                elif label == "stdin":
-                    for line, answer in zip(shown[::2], shown[1::2], strict=True):
-                        self.assertEqual(stored.get(line.encode()), answer.encode(), line)
-                for literal in shown if label and label != "stdin" else ():
-                    told = f"requirements.md cites what {PATHS[label]} does not have: {literal}"
-                    self.assertTrue(has(codes[label], in_one_line(literal)), told)
-        counts = "rows and literals of requirements.md. If you added some on purpose, change this"
-        self.assertEqual((rows, literals), (234, 701), counts)
-        # Those are required that say so, and each stands where the page says.
+        mutants, lost = set(), []
+        rows = re.findall(r"^\| .* \| (?=[`\[])(.*) \|$", PAGE, re.MULTILINE)
+        for label, shown in re.findall(r"(?:\[([^\]]*)\] )?((?:`[^`]*` ?)+)", "\n".join(rows)):
+            names = set(re.findall("`(.*?)`", shown))
+            mutants |= set() if label else names
+            lost += [
+                f"{PATHS[label]}: {it}" for it in names if label and not runs(PATHS[label], it)
+            ]
+        self.assertEqual(sorted(lost), [], "requirements.md names what is no test that runs")
+        # Those are required that say so.
         says = "\n# required by tools/tests/requirements.md\n"
-        edits = {edit: edit.read_text() for edit in ROOT.glob("crates/*/must-fail/*.edit")}
-        required = {
-            edit.stem: f"{edit.parts[-3]}: {text.splitlines()[0].removeprefix('# clause: ')}"
-            for edit, text in edits.items()
-            if says in text
-        }
-        self.assertEqual(sorted(mutants), sorted(required))
-        shown = re.findall(r"^\| `(\w+)` \| (\w+: .*) \|$", PAGE, re.MULTILINE)
-        self.assertEqual(dict(shown), required)
+        edits = ROOT.glob("crates/*/must-fail/*.edit")
+        required = {edit.stem for edit in edits if says in edit.read_text()}
+        told = "a mutant that requirements.md names says so, and no other"
+        self.assertEqual(mutants, required, told)
