@@ -7,8 +7,6 @@ SHELL := bash
 .SHELLFLAGS := -Eeuo pipefail -c
 export CARGO_TARGET_DIR ?= $(CURDIR)/target
 PYTHON := $(shell for it in python3 /usr/bin/python3; do $$it -c 'import z3' 2>/dev/null && echo $$it && exit; done)
-RUSTC := $(shell sed -n 's/^RUSTC = "\(.*\)"$$/\1/p' tools/mir/__main__.py)
-IS_RUSTC := $(findstring rustc $(RUSTC).,$(shell rustc --version 2>&1))
 # The gate compares later, with what it proves.
 MIR := python3 tools/mir
 FETCHED := $(if $(FONT_TYPES_DIR),--offline --config 'patch.crates-io.font-types.path="$(FONT_TYPES_DIR)"')
@@ -66,11 +64,11 @@ tools:
 
 # What these two print has a line for each function, which is left out here.
 smt smt-checked:
-	$(call with,cc $(if $(PYTHON),,python3-z3) $(if $(IS_RUSTC),,rustc-$(RUSTC)))
+	$(call with,rustc cc $(if $(PYTHON),,python3-z3))
 	$(PYTHON) tools/smt $(filter --checked,$(@:smt%=-%)) | sed '/ proved$$/d'
 
 mir:
-	$(call with,cargo cc git python3 $(if $(IS_RUSTC),,rustc-$(RUSTC)))
+	$(call with,cargo cc git python3)
 	$(MIR)
 
 c:
@@ -88,6 +86,6 @@ compare:
 
 # The tests that `compare` runs call each function of font-types.
 compared:
-	$(call with,cargo cc python3 rustdoc objdump c++filt $(if $(IS_RUSTC),,rustc-$(RUSTC)))
+	$(call with,cargo cc python3 rustdoc objdump c++filt)
 	$(fetched)
 	compare/compared $(FETCHED)

@@ -34,7 +34,7 @@ import geometry
 import printing
 import rules
 import table
-from build import build
+from build import Refusal, build, version
 from ir import Module
 from proof import fault_of
 from state import LIMIT
@@ -113,11 +113,16 @@ def main() -> int:
         if solver.check() != z3.unsat:
             print(f"the lemma {name} is not proved")
             return 1
-    with tempfile.TemporaryDirectory() as room:
-        found = run(options, Path(room))
+    try:
+        rustc = version(options.tree)
+        with tempfile.TemporaryDirectory() as room:
+            found = run(options, Path(room))
+    except Refusal as error:
+        print(error, file=sys.stderr)
+        return 1
     kind = "checked" if options.checked else "release"
     proved, seconds = sum(not it.reason for it in found), sum(it.seconds for it in found)
-    count = f"{proved} of {len(found)} functions proved in the {kind} build"
+    count = f"{proved} of {len(found)} functions proved in the {kind} build, by {rustc}"
     print(f"{count}, {time.process_time() + seconds:.0f} s of processor")
     return int(not found or proved < len(found))
 

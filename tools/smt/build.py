@@ -35,6 +35,17 @@ class Refusal(Exception):
     """What rustc says of Rust that it does not compile."""
 
 
+def version(tree: Path) -> str:
+    """Returns which rustc this is, which is not older than the package requires."""
+    done = subprocess.run(["rustc", "--version"], capture_output=True, text=True, check=True)
+    manifest = (tree / "Cargo.toml").read_text()
+    least = re.findall(r'^rust-version = "(.*)"$', manifest, re.M)[0]
+    one, other = ([int(it) for it in re.findall(r"\d+", of)[:2]] for of in (done.stdout, least))
+    if one < other:
+        raise Refusal(f"{done.stdout.strip()} is older than {least}, which the package requires")
+    return done.stdout.strip()
+
+
 def returned(type_: str, value: str) -> tuple[str, str]:
     """Returns the integer type that a wrapper returns, and the integer."""
     if type_[0] == "?":

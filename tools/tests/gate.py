@@ -9,7 +9,6 @@ import tempfile
 import unittest
 
 ROOT = pathlib.Path(__file__).resolve().parents[2]
-VERSION = "tools/mir/__main__.py"
 MEMORY = "crates/rows/src/tests/json/memory.rt"
 STORED = "crates/fontval/memory/stdin crates/fontval/memory/stdout"
 BUILT = (
@@ -30,8 +29,6 @@ FAULTS = (
 ).split(",")
 FETCH = "cargo fetch --quiet --manifest-path compare/Cargo.toml"
 LEFT_OUT = {"crate": "nothing", "--anew": "nothing", "freetype": "FreeType"}
-OF_RUSTC = "{0}, which needs rustc-1.95"
-LEFT_OUT["rustc"] = "; ".join(map(OF_RUSTC.format, ("compared", "mir", "smt", "smt-checked")))
 LEFT_OUT["python3 -c import z3"] = "; ".join(
     f"{it}, which needs python3-z3" for it in ("a part of tools", "smt", "smt-checked")
 )
@@ -48,7 +45,6 @@ case $call in
 "check ")
     [ "$FAIL" != freetype ] || echo "left out: FreeType"
     [ "$FAIL" = "last call" ] || echo "the library for C: all calls are right" ;;
-"rustc --version") [ "$FAIL" = rustc ] && echo rustc 1.96.0 || echo rustc 1.95.0 ;;
 "rows_tests --list")
     sed -n '/^#\[test\]/{n; s/^fn \(.*\)(.*/tests::json::memory::\1: test/p}' MEMORY ;;
 "rows_tests "*)
@@ -79,7 +75,7 @@ esac
 class Gate(unittest.TestCase):
     def setUp(self) -> None:
         self.folder = pathlib.Path(self.enterContext(tempfile.TemporaryDirectory()))
-        for path in f".ci/run Makefile {STORED} {MEMORY} {VERSION}".split():
+        for path in f".ci/run Makefile {STORED} {MEMORY}".split():
             text = (ROOT / path).read_text()
             self.put(path, text.replace("/usr/bin/python3", "bin/python3"))
         for path in BUILT.split() + [
@@ -116,7 +112,7 @@ class Gate(unittest.TestCase):
         self.assertEqual(self.run_gate(), "nothing")
         calls = (self.folder / "log").read_text().splitlines()
         self.assertFalse((self.folder / "crates/font_types/out/rlib/old").exists())
-        steps = {call for call in calls if not call.startswith(("font", "rows", "rustc --v"))}
+        steps = {call for call in calls if not call.startswith(("font", "rows"))}
         # A step that is lost or added changes this number.
         self.assertEqual(len(steps), 29)
         # A step that checks nothing would not fail.
