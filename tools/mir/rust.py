@@ -386,6 +386,8 @@ class Body(Function):
             return ("use", ("copy", (local, (*steps, (step,)))))
         if borrowed := re.fullmatch(r"&(?:mut |raw const \(fake\) )?([_(].*)", text):
             return ("ref", self.place(borrowed[1]))
+        # It is said to Miri, of a copy of a reference, and computes nothing.
+        text = text.removeprefix("no_retag ")
         if text[:5] in ("copy ", "move ", "const"):
             operand, *to = split(text, " as ")
             return self.casted(operand, *to) if to else ("use", self.operand(operand))
