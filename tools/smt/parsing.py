@@ -274,13 +274,15 @@ class Parsing:
 
     def names(self, function: Function, values: Names) -> tuple[str, str, str]:
         """Returns which loop it is, and the names of the index and of the other value of a turn.
-        They are guessed: a wrong guess has a false invariant."""
+        They are guessed: a wrong guess has a false invariant. The loop of the later places has the
+        index alone, which then is both."""
+        if len(values) == 1:
+            (name,) = values
+            return "late", name, name
         if len(values) != 2:
             raise Unsupported(f"a loop of {list(values)}")
         for name, other in (list(values), list(values)[::-1]):
-            at, value = number_of(values[name]).bits, number_of(values[other]).bits
-            if value.size() == 1:
-                return "late", name, other
+            at = number_of(values[name]).bits
             if not is_constant(at):
                 return "kept", name, other
             lines = (it for block in function.blocks.values() for it in block)
@@ -290,15 +292,14 @@ class Parsing:
 
     def invariant(self, loop: str, index: ArithRef, value: ArithRef) -> BoolRef:
         """What holds before a turn. The whole so far is exact, or at a limit; of the later places,
-        whether all so far are digits is known; half units are of the places from the index on."""
+        all so far are digits; half units are of the places from the index on."""
         first, late, cut = self.text.first, self.text.late, self.text.cut
         if loop == "whole":
             exact, most = whole(s + index), self.most(loop)
             least = value == z3.If(exact < most, exact, most)
             return z3.And(0 <= index, s + index < n, s + index <= e, 0 <= exact, least)
         if loop == "late":
-            are_digits = z3.If(late + index <= z, 1, 0)
-            return z3.And(0 <= index, late + index < n, value == are_digits)
+            return z3.And(0 <= index, late + index < n, late + index <= z, value == index)
         floor = is_floor(value, 2**self.text.places * fraction(first + index, cut))
         fits = z3.And(0 <= value, value <= self.most(loop))
         return z3.And(1 <= index, first + index <= cut, y <= first + index, floor, fits)
@@ -307,16 +308,17 @@ class Parsing:
         """Returns a number that the value of a turn never exceeds."""
         if loop == "whole":
             return int(2 ** (63 - self.row.f)) + 1
-        return 1 if loop == "late" else int(2**self.text.places) - 1
+        return (1 << 63) - 1 if loop == "late" else int(2**self.text.places) - 1
 
     def at_head(self, function: Function, block: str, values: Names, state: State) -> Names | None:
         """Before the first turn, shows the invariant and returns any values that meet it. After a
         turn, shows that the values meet it again, and that the turn goes on."""
         key = f"loop {block}"
         if state.visits[block] > 1:
-            loop, name, other = self.heads[state.visits[key]]
+            loop, name, other, memory = self.heads[state.visits[key]]
         else:
             loop, name, other = self.names(function, values)
+            memory = dict(state.memory)
         numbers = [number_of(values[it]) for it in (name, other)]
         self.refute("poison in a loop", [*state.conditions, z3.Or([it.poison for it in numbers])])
         now = [self.integers.number(z3.simplify(it.bits)) for it in numbers]
@@ -328,12 +330,12 @@ class Parsing:
             by = -1 if loop == "kept" else 1
             stays = self.of_integers(now[0] != before + by)
             self.refute("a turn of a loop does not go on", [*state.conditions, stays])
-            same = [state.memory.get(it) is known for it, known in self.memory.items()]
+            same = [state.memory.get(it) is known for it, known in memory.items()]
             if len(same) != len(state.memory) or not all(same):
                 raise Unsupported("a loop that stores")
             return None
         state.visits[key] = len(self.heads)
-        self.heads.append((loop, name, other))
+        self.heads.append((loop, name, other, memory))
         return self.any_turn(loop, name, other, numbers, state)
 
     def any_turn(
@@ -353,7 +355,7 @@ class Parsing:
 
     def run(self) -> None:
         """Proves the function, or raises why not."""
-        self.heads: list[tuple[str, str, str]] = []
+        self.heads: list[tuple[str, str, str, dict[str, Any]]] = []
         self.integers.bounds["n"] = 0, (1 << 63) - 1
         self.always = self.keep(z3.BoolVal(True), self.text.facts())
         length, (low, high) = z3.BitVec("n", 64), z3.BitVecs("min max", 64)

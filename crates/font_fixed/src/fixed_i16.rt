@@ -300,6 +300,8 @@ where
     /// # Errors
     ///
     /// Returns the errors of `from_decimal`, and `Syntax` if the bytes are not UTF-8.
+    // Code for each format, not for each call.
+    #[inline(never)]
     pub fn from_decimal_bytes(text: &[u8]) -> Result<Self, DecimalFault>
         ensures { ParsesFixedPoint w16 F bits_of text.now result }
     {

@@ -433,7 +433,8 @@ where
     /// ```
     /// [Notation](crate::definitions): [`ParsesFixedPoint`], [`bits_of`]
     /// </details>
-    #[inline]
+    // Code for each format, not for each call.
+    #[inline(never)]
     pub const fn from_decimal_bytes(text: &[u8]) -> Result<Self, DecimalFault> {
         match read_bits_16(text, F) {
             Ok(bits) => Ok(Self(bits)),
