@@ -33,7 +33,11 @@ rust:
 pages:
 	$(call with,cargo cc rustdoc)
 	export RUSTDOCFLAGS=-Dwarnings
+	rm -rf "$$CARGO_TARGET_DIR/doc"
 	for it in . variations; do cargo doc --quiet --no-deps --manifest-path $$it/Cargo.toml; done
+	# Two pages whose paths differ by case alone are one on macOS and Windows.
+	same=$$(cd "$$CARGO_TARGET_DIR/doc" && find . | sort -f | uniq -Di)
+	[[ -z $$same ]] || { echo "$$same"; exit 1; }
 	cargo build --quiet
 	rustdoc --edition=2024 --test README.md -L "$$CARGO_TARGET_DIR/debug/deps" \
 		--extern font_types_proved="$$CARGO_TARGET_DIR/debug/libfont_types_proved.rlib"

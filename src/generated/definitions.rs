@@ -79,7 +79,7 @@ pub mod font_decimal {
     /// Rounding a fraction to an integer. A fixed-point number with f fraction bits is its raw value over 2^f (OpenType,
     /// data types: Fixed, F2DOT14), so parsing, printing and arithmetic all round an exact fraction n / d with 0 < d.
     ///
-    /// In the order of `crates/font_decimal/specs/Near.antt`: [`signed`](mod@Near::signed), [`Near`](mod@Near::Near), [`near_magnitude`](mod@Near::near_magnitude), [`near`](mod@Near::near), [`Up`](mod@Near::Up), [`up`](mod@Near::up).
+    /// In the order of `crates/font_decimal/specs/Near.antt`: [`signed`](mod@Near::signed), [`Near`](mod@Near::Near), [`near_magnitude`](mod@Near::near_magnitude), [`Up`](mod@Near::Up).
     pub mod Near {
         /// the integer with this magnitude, negated if `negative`
         ///
@@ -96,7 +96,13 @@ pub mod font_decimal {
         /// record Near (n : ℤ) (d : ℕ) (q : ℤ) : Type 0 where
         ///   close : 2 * unsigned_abs (q *ℤ pos d -ℤ n) ≤ d
         ///   away : 2 * unsigned_abs (q *ℤ pos d -ℤ n) ≡ d → unsigned_abs n < unsigned_abs q * d
+        ///
+        /// -- the unique q with `Near n d q`: the magnitude is rounded, and the sign kept
+        /// unfoldable near : ℤ → ℕ → ℤ
+        /// near (pos n) d = pos (near_magnitude n d)
+        /// near (negsuc n) d = neg_ℤ (pos (near_magnitude (suc n) d))
         /// ```
+        /// [`near_magnitude`]
         pub mod Near {}
 
         /// n / d rounded half up: the floor of n / d + 1/2
@@ -107,34 +113,20 @@ pub mod font_decimal {
         /// ```
         pub mod near_magnitude {}
 
-        /// the unique q with `Near n d q`: the magnitude is rounded, and the sign kept
-        ///
-        /// ```text
-        /// unfoldable near : ℤ → ℕ → ℤ
-        /// near (pos n) d = pos (near_magnitude n d)
-        /// near (negsuc n) d = neg_ℤ (pos (near_magnitude (suc n) d))
-        /// ```
-        /// [`near_magnitude`]
-        pub mod near {}
-
         /// q is n / d rounded half up: the nearest integer and, of two equally near, the greater
         ///
         /// ```text
         /// record Up (n : ℤ) (d : ℕ) (q : ℤ) : Type 0 where
         ///   low : (pos 2 *ℤ (q *ℤ pos d)) ≤ℤ (pos 2 *ℤ n +ℤ pos d)
         ///   high : (pos 2 *ℤ n +ℤ pos d) <ℤ (pos 2 *ℤ ((q +ℤ pos 1) *ℤ pos d))
-        /// ```
-        pub mod Up {}
-
-        /// the unique q with `Up n d q`: a negative tie is rounded toward zero
         ///
-        /// ```text
+        /// -- the unique q with `Up n d q`: a negative tie is rounded toward zero
         /// unfoldable up : ℤ → ℕ → ℤ
         /// up (pos n) d = pos (near_magnitude n d)
         /// up (negsuc n) d = neg_ℤ (pos ((2 * n + 1 + d) / (2 * d)))
         /// ```
         /// [`near_magnitude`]
-        pub mod up {}
+        pub mod Up {}
     }
 
     /// A text that is padded to a width. OpenType has no such rule; std's format specifications have the same alignments.
@@ -1128,7 +1120,7 @@ pub mod font_fixed {
     pub mod Operations {
         use crate::definitions::font_base::Wrap::{FitsBits, half_range, wrap};
         use crate::definitions::font_decimal::{
-            Near::{Near, Up, near, signed, up},
+            Near::{Near, Near as near, Up, Up as up, signed},
             Reading::{IsOutOfRange, Parses, Reads},
         };
         /// r is z wrapped to w bits: z itself, if it fits in them
@@ -1410,7 +1402,7 @@ pub mod font_fixed {
     ///
     /// In the order of `crates/font_fixed/specs/Rounding.antt`: [`rounded`](mod@Rounding::rounded).
     pub mod Rounding {
-        use crate::definitions::font_decimal::Near::up;
+        use crate::definitions::font_decimal::Near::Up as up;
         /// the raw value of the integer nearest to b / 2^f, half up
         ///
         /// ```text
@@ -1683,7 +1675,7 @@ pub mod font_ids {
     ///
     /// In the order of `crates/font_ids/specs/FWord.antt`: [`fword_number`](mod@FWord::fword_number), [`fword_of`](mod@FWord::fword_of), [`ufword_number`](mod@FWord::ufword_number), [`ufword_of`](mod@FWord::ufword_of), [`nearest_unit`](mod@FWord::nearest_unit).
     pub mod FWord {
-        use crate::definitions::font_decimal::Near::up;
+        use crate::definitions::font_decimal::Near::Up as up;
         /// the value of an `FWord` (OpenType, data types: FWORD, "int16 that describes a quantity in font design units"),
         /// and the `FWord` with this value
         ///
@@ -2076,7 +2068,7 @@ pub mod font_geom {
     /// In the order of `crates/font_geom/specs/FixedMatrix.antt`: [`matrix_bits`](mod@FixedMatrix::matrix_bits), [`point_bits`](mod@FixedMatrix::point_bits), [`bits_of_point`](mod@FixedMatrix::bits_of_point), [`rounded_product`](mod@FixedMatrix::rounded_product), [`rounded_image`](mod@FixedMatrix::rounded_image), [`rounded_matrix_product`](mod@FixedMatrix::rounded_matrix_product), [`wrapped_product`](mod@FixedMatrix::wrapped_product), [`wrapped_sum`](mod@FixedMatrix::wrapped_sum), [`fixed_product`](mod@FixedMatrix::fixed_product), [`ProductsAssociate`](mod@FixedMatrix::ProductsAssociate), [`FitsPoint`](mod@FixedMatrix::FitsPoint), [`FitsComposed`](mod@FixedMatrix::FitsComposed), [`FitsInTurn`](mod@FixedMatrix::FitsInTurn), [`exact_row`](mod@FixedMatrix::exact_row), [`IsCloseImage`](mod@FixedMatrix::IsCloseImage), [`exact_coordinate`](mod@FixedMatrix::exact_coordinate), [`exact_image`](mod@FixedMatrix::exact_image), [`IsWithin`](mod@FixedMatrix::IsWithin), [`IsCloseComposed`](mod@FixedMatrix::IsCloseComposed), [`IsCloseInTurn`](mod@FixedMatrix::IsCloseInTurn).
     pub mod FixedMatrix {
         use crate::definitions::font_base::Wrap::{FitsBits, wrap};
-        use crate::definitions::font_decimal::Near::near;
+        use crate::definitions::font_decimal::Near::Near as near;
         use crate::definitions::font_fixed::{
             Fixed::{Fixed, fixed_bits, fixed_of},
             FixedI32::bits_of,
@@ -2462,7 +2454,7 @@ pub mod font_geom {
     ///
     /// In the order of `crates/font_geom/specs/Scale.antt`: [`scale_bits`](mod@Scale::scale_bits), [`factor_of`](mod@Scale::factor_of), [`IsCloseScaled`](mod@Scale::IsCloseScaled).
     pub mod Scale {
-        use crate::definitions::font_decimal::Near::near;
+        use crate::definitions::font_decimal::Near::Near as near;
         use crate::definitions::font_fixed::Fixed::fixed_bits;
         /// the raw value of the factor
         ///

@@ -18,7 +18,9 @@ EXPORT = re.compile(r"^pub use Rattle\.(\w+)\.specs\.(\w+)(?: as (\w+))?$", re.M
 @dataclass
 class Definition:
     """A definition: the comment above it, or above the one before, which then is of both; its
-    text; and the paths of other definitions, by their names in it."""
+    text; and the paths of other definitions, by their names in it. The text goes on with a
+    definition whose path differs by case alone, as `near` of `Near`: not every file system has room
+    for a page of each."""
 
     comment: str
     text: str
@@ -32,6 +34,7 @@ def read(root: Path, crates: list[str]) -> tuple[Definitions, dict[str, str], di
     """Returns the definitions of these crates, the comments of their files, and the path of a
     definition by each path that imports have."""
     definitions: Definitions = {}
+    pages: dict[str, str] = {}
     heads, imports = {}, {}
     for crate in crates:
         for file in sorted((root / f"crates/{crate}/specs").glob("*.antt")):
@@ -39,32 +42,39 @@ def read(root: Path, crates: list[str]) -> tuple[Definitions, dict[str, str], di
             heads[module], imports[module] = comment_of(text), IMPORT.findall(text)
             comment = ""
             for block in re.sub(r"(?m)^module _ .*\n", "", text).split("\n\n"):
-                block = dedented(block.rstrip())
-                comment = comment_of(block) or comment
-                block = re.sub(r"(?m)\A(--.*\n)*", "", block)
-                if (name := START.match(block)) and not block.startswith("pub mod"):
-                    definitions[f"{module}::{name[1]}"] = Definition(comment, block)
-    paths = {path: path for path in definitions} | exported(root, crates, definitions)
+                whole = dedented(block.rstrip())
+                comment = comment_of(whole) or comment
+                block = re.sub(r"(?m)\A(--.*\n)*", "", whole)
+                if not (name := START.match(block)) or block.startswith("pub mod"):
+                    continue
+                path = f"{module}::{name[1]}"
+                pages[path] = next((it for it in pages if it.lower() == path.lower()), path)
+                if pages[path] == path:
+                    definitions[path] = Definition(comment, block)
+                else:
+                    definitions[pages[path]].text += f"\n\n{whole}"
+    paths = pages | exported(root, crates, pages)
     for path, definition in definitions.items():
         module = path.rpartition("::")[0]
-        known = {it.rpartition("::")[2]: it for it in definitions if it.startswith(f"{module}::")}
+        own = {it: page for it, page in pages.items() if it.startswith(f"{module}::")}
+        known = {it.rpartition("::")[2]: page for it, page in own.items()}
         for of, names in imports[module]:
             known |= imported(of, names, paths)
-        definition.names = named(definition.text, known)
-        definition.names.pop(path.rpartition("::")[2], None)
+        shown = named(definition.text, known)
+        definition.names = {name: page for name, page in shown.items() if page != path}
     return definitions, heads, paths
 
 
-def exported(root: Path, crates: list[str], definitions: Iterable[str]) -> dict[str, str]:
+def exported(root: Path, crates: list[str], pages: dict[str, str]) -> dict[str, str]:
     """Returns the paths of definitions by those that crates give them which re-export their files."""
     paths = {}
     for crate in crates:
         lib = (root / f"crates/{crate}/specs/Lib.antt").read_text()
         for of, file, own in EXPORT.findall(lib):
             start = f"{of}::{file}::"
-            for path in definitions:
+            for path, page in pages.items():
                 if path.startswith(start):
-                    paths[f"{crate}::{own or file}::{path.removeprefix(start)}"] = path
+                    paths[f"{crate}::{own or file}::{path.removeprefix(start)}"] = page
     return paths
 
 
@@ -136,7 +146,7 @@ def pages(definitions: Definitions, heads: dict[str, str], wanted: Iterable[str]
             (name, other)
             for path in own
             for name, other in definitions[path].names.items()
-            if not other.startswith(f"{module}::")
+            if other != f"{module}::{name}"
         }
         rust += f"pub mod {file} {{\n{imports(others)}"
         rust += "".join(page(path, definitions[path]) for path in own) + "}\n\n"

@@ -5,7 +5,7 @@
 #[cfg(doc)]
 use crate::definitions::font_base::Wrap::wrap;
 #[cfg(doc)]
-use crate::definitions::font_decimal::Near::{near, signed};
+use crate::definitions::font_decimal::Near::{Near as near, signed};
 #[cfg(doc)]
 use crate::definitions::font_fixed::Operations::{
     IsMulDiv, IsProduct, differ_in_sign, rounded_mul_div,

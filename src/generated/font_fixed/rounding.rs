@@ -5,7 +5,7 @@
 #[cfg(doc)]
 use crate::definitions::font_base::Wrap::FitsBits;
 #[cfg(doc)]
-use crate::definitions::font_decimal::Near::up;
+use crate::definitions::font_decimal::Near::Up as up;
 #[cfg(doc)]
 use crate::definitions::font_fixed::{Operations::IsFloor, Rounding::rounded};
 

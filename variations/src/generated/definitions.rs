@@ -58,7 +58,7 @@ pub mod font_decimal {
     /// Rounding a fraction to an integer. A fixed-point number with f fraction bits is its raw value over 2^f (OpenType,
     /// data types: Fixed, F2DOT14), so parsing, printing and arithmetic all round an exact fraction n / d with 0 < d.
     ///
-    /// In the order of `crates/font_decimal/specs/Near.antt`: [`signed`](mod@Near::signed), [`Near`](mod@Near::Near), [`near_magnitude`](mod@Near::near_magnitude), [`near`](mod@Near::near), [`Up`](mod@Near::Up), [`up`](mod@Near::up).
+    /// In the order of `crates/font_decimal/specs/Near.antt`: [`signed`](mod@Near::signed), [`Near`](mod@Near::Near), [`near_magnitude`](mod@Near::near_magnitude), [`Up`](mod@Near::Up).
     pub mod Near {
         /// the integer with this magnitude, negated if `negative`
         ///
@@ -75,7 +75,13 @@ pub mod font_decimal {
         /// record Near (n : ℤ) (d : ℕ) (q : ℤ) : Type 0 where
         ///   close : 2 * unsigned_abs (q *ℤ pos d -ℤ n) ≤ d
         ///   away : 2 * unsigned_abs (q *ℤ pos d -ℤ n) ≡ d → unsigned_abs n < unsigned_abs q * d
+        ///
+        /// -- the unique q with `Near n d q`: the magnitude is rounded, and the sign kept
+        /// unfoldable near : ℤ → ℕ → ℤ
+        /// near (pos n) d = pos (near_magnitude n d)
+        /// near (negsuc n) d = neg_ℤ (pos (near_magnitude (suc n) d))
         /// ```
+        /// [`near_magnitude`]
         pub mod Near {}
 
         /// n / d rounded half up: the floor of n / d + 1/2
@@ -86,34 +92,20 @@ pub mod font_decimal {
         /// ```
         pub mod near_magnitude {}
 
-        /// the unique q with `Near n d q`: the magnitude is rounded, and the sign kept
-        ///
-        /// ```text
-        /// unfoldable near : ℤ → ℕ → ℤ
-        /// near (pos n) d = pos (near_magnitude n d)
-        /// near (negsuc n) d = neg_ℤ (pos (near_magnitude (suc n) d))
-        /// ```
-        /// [`near_magnitude`]
-        pub mod near {}
-
         /// q is n / d rounded half up: the nearest integer and, of two equally near, the greater
         ///
         /// ```text
         /// record Up (n : ℤ) (d : ℕ) (q : ℤ) : Type 0 where
         ///   low : (pos 2 *ℤ (q *ℤ pos d)) ≤ℤ (pos 2 *ℤ n +ℤ pos d)
         ///   high : (pos 2 *ℤ n +ℤ pos d) <ℤ (pos 2 *ℤ ((q +ℤ pos 1) *ℤ pos d))
-        /// ```
-        pub mod Up {}
-
-        /// the unique q with `Up n d q`: a negative tie is rounded toward zero
         ///
-        /// ```text
+        /// -- the unique q with `Up n d q`: a negative tie is rounded toward zero
         /// unfoldable up : ℤ → ℕ → ℤ
         /// up (pos n) d = pos (near_magnitude n d)
         /// up (negsuc n) d = neg_ℤ (pos ((2 * n + 1 + d) / (2 * d)))
         /// ```
         /// [`near_magnitude`]
-        pub mod up {}
+        pub mod Up {}
     }
 
     /// Parsing a decimal as a multiple of 1 / 2^f.
@@ -415,7 +407,7 @@ pub mod font_fixed {
     pub mod Operations {
         use crate::definitions::font_base::Wrap::{half_range, wrap};
         use crate::definitions::font_decimal::{
-            Near::{Near, Up, near, signed, up},
+            Near::{Near, Near as near, Up, Up as up, signed},
             Reading::{IsOutOfRange, Parses, Reads},
         };
         /// n / d rounded half away from zero and wrapped to w bits
@@ -668,7 +660,7 @@ pub mod font_ids {
     ///
     /// In the order of `crates/font_ids/specs/FWord.antt`: [`ufword_number`](mod@FWord::ufword_number), [`nearest_unit`](mod@FWord::nearest_unit).
     pub mod FWord {
-        use crate::definitions::font_decimal::Near::up;
+        use crate::definitions::font_decimal::Near::Up as up;
         /// the same for `UfWord` (OpenType, data types: UFWORD, "uint16 that describes a quantity in font design units")
         ///
         /// ```text

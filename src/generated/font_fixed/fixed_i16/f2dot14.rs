@@ -5,7 +5,7 @@
 #[cfg(doc)]
 use crate::definitions::font_base::Wrap::FitsBits;
 #[cfg(doc)]
-use crate::definitions::font_decimal::Near::up;
+use crate::definitions::font_decimal::Near::Up as up;
 #[cfg(doc)]
 use crate::definitions::font_fixed::{
     F2Dot14::f2dot14_bits as bits_of, F48Dot16::f48dot16_bits, Fixed::fixed_bits,

@@ -5,7 +5,7 @@
 #[cfg(doc)]
 use crate::definitions::font_base::Wrap::{FitsBits, wrap};
 #[cfg(doc)]
-use crate::definitions::font_decimal::Near::{near, up};
+use crate::definitions::font_decimal::Near::{Near as near, Up as up};
 #[cfg(doc)]
 use crate::definitions::font_fixed::{
     F26Dot6::f26dot6_bits as bits_of,

@@ -8,7 +8,7 @@ use crate::definitions::font_base::{
     Wrap::{FitsBits, fits_bits, wrap},
 };
 #[cfg(doc)]
-use crate::definitions::font_decimal::Near::{near, up};
+use crate::definitions::font_decimal::Near::{Near as near, Up as up};
 #[cfg(doc)]
 use crate::definitions::font_fixed::{
     F2Dot14::f2dot14_bits,

@@ -5,7 +5,7 @@
 #[cfg(doc)]
 use crate::definitions::font_base::Wrap::{FitsBits, wrap};
 #[cfg(doc)]
-use crate::definitions::font_decimal::Near::up;
+use crate::definitions::font_decimal::Near::Up as up;
 #[cfg(doc)]
 use crate::definitions::font_fixed::{
     F48Dot16::f48dot16_bits as bits_of, Fixed::fixed_bits, Operations::IsNarrowed,
