@@ -19,7 +19,8 @@ These are changed, and nothing else:
 - a trait's parameter `Rhs`, which defaults to `Self`, as of Rust's operators;
 - a slice parameter of an `extern "C"` function, which becomes a pointer and a length;
 - an `extern "C"` function with a slice or a reference, which becomes `unsafe`;
-- `prove!(..)`, which becomes `const { assert!(..) }`: rustc checks it of each type;
+- `prove!(..)`, which becomes `const { assert!(..) }`: rustc checks it of each type; or, with a
+  message, `assert!(..)`, with which a call from Rust panics that breaks a precondition;
 - the program's `fn main`, which becomes `pub`;
 - functions of `CONST`, which become `const`, and those of the library, which become `#[inline]` and
   `#[must_use]`;
@@ -190,7 +191,11 @@ class Eraser:
             case ["+", "Drop", after, *_] if after != "::":
                 return self.leave_out(at, at + 2)
             case ["prove", "!", "(", *_]:
-                self.put_after(self.group_end(at + 2) - 1, " }")
+                end = self.group_end(at + 2) - 1
+                if self.words[end - 1][0] == '"':
+                    self.replace(at, "assert")
+                    return at + 1
+                self.put_after(end, " }")
                 self.replace(at, "const { assert")
             case [name, "::", after, *_] if forms.is_start(self.words, at):
                 self.path(at, name, after)

@@ -48,7 +48,7 @@ impl Shortest {
         ensures text { shown result ≡ shortest_text bits f }
     {
         // Rust, which does not check the precondition, panics here.
-        30u32.checked_sub(f).unwrap();
+        prove!(f <= 30, "the number of fraction bits exceeds 30");
         let magnitude = bits.unsigned_abs();
         // The point is there before the digits.
         let mut bytes = [b'.'; LEN];

@@ -118,7 +118,7 @@ pub const fn read_decimal_bytes(
 #[inline(always)]
 const fn nearest_raw(digits: &[u8], f: u32) -> Option<u64> {
     // Rust, which does not check the precondition, panics here.
-    24u32.checked_sub(f - 6).unwrap();
+    assert!(matches!(f, 6..=30), "the number of fraction bits is not from 6 to 30");
     // An integer part that exceeds 2^63 raw units is out of every range.
     let (whole, len) = whole_digits(digits, (1 << (63 - f)) + 1);
     if len == 0 {

@@ -64,7 +64,7 @@ impl Shortest {
     #[inline(always)]
     pub fn new(bits: i64, f: u32) -> Self {
         // Rust, which does not check the precondition, panics here.
-        30u32.checked_sub(f).unwrap();
+        assert!(f <= 30, "the number of fraction bits exceeds 30");
         let magnitude = bits.unsigned_abs();
         // The point is there before the digits.
         let mut bytes = [b'.'; LEN];

@@ -11,8 +11,8 @@ whole_digits-whole-requires c =
     (omega (arith, c.requires)) in
     rw (one_shl (63 - c.args.f) 64 (omega arith)) (omega arith)
 
-pub returns-in_default-clause-none : goal.returns-in_default-clause-none
-returns-in_default-clause-none c = grind (arith, take_rest, fraction_found)
+pub returns-in_default-after_point-clause-none : goal.returns-in_default-after_point-clause-none
+returns-in_default-after_point-clause-none c = grind (arith, take_rest, fraction_found)
 
 pub returns-in_default-half_units-clause-none : goal.returns-in_default-half_units-clause-none
 returns-in_default-half_units-clause-none c = grind (arith, same_point, fraction_found, take_rest)
