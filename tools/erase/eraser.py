@@ -24,8 +24,8 @@ These are changed, and nothing else:
 - the program's `fn main`, which becomes `pub`;
 - functions of `CONST`, which become `const`, and those of the library, which become `#[inline]` and
   `#[must_use]`;
-- in documentation the package's name, and in a comment `#[doc(alias = ..)]`, an attribute that
-  Rattle does not have, which becomes one.
+- in documentation the package's name, and in a comment `#[doc(alias = ..)]` and
+  `#[diagnostic::..]`, attributes that Rattle does not have, which become ones.
 
 `Display` and `Error` of a type that derives `Error` are added, what `DERIVED` lists, and in each
 file of the program the import of what Rattle has in scope.
@@ -452,7 +452,7 @@ class Eraser:
         for before, is_kept, (kind, text, _) in zip(self.put_before, self.kept, self.tokens):
             if kind in ("head", "doc"):
                 text = text.replace("font_types::", "font_types_proved::")
-            elif kind == "comment" and text.startswith("// #[doc(alias = "):
+            elif kind == "comment" and text.startswith(("// #[doc(alias", "// #[diagnostic::")):
                 text = text.removeprefix("// ")
             rust += before + (text if is_kept else "\0")
         lines = (rust + self.put_before[-1]).split("\n")

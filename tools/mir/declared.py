@@ -15,7 +15,7 @@ WORD = re.compile(
 # All attributes and macros but these, which rustc may read otherwise for a user than here.
 OTHER_FORM = re.compile(
     r"# \[ (?!derive \(|must_use \]|inline (?:\( \w+ \) )?\]|"
-    r'doc \( (?:hidden|alias = "\w+") \) \]|'
+    r'doc \( (?:hidden|alias = "\w+") \) \]|diagnostic :: on_unimplemented \( note = "[^"]*" \) \]|'
     r"repr \( C \) \]|unsafe \( no_mangle \) \])|# !|"
     r"\b(?!(?:assert|eprint|matches|write|if|in|match|return|while) )\w+ ! "
 )

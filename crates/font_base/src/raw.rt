@@ -174,6 +174,7 @@ pub trait FixedSize: Sized {
 ///
 /// - `from_raw(value.to_raw())` is `value`, and `from_raw(raw).to_raw()` is `raw`.
 /// - `Raw::LEN` equals `RAW_BYTE_LEN`.
+// #[diagnostic::on_unimplemented(note = "`record!` makes a scalar of a `struct` of scalars")]
 pub trait Scalar: FixedSize {
     /// The raw bytes.
     type Raw: BeByteArray;

@@ -12,6 +12,7 @@ use crate::{FixedI16, FixedI32, FixedI64};
 /// struct Mine;
 /// impl font_types::Format<32, 16> for Mine {}
 /// ```
+// #[diagnostic::on_unimplemented(note = "in a function of all formats, write this in a `where`")]
 pub trait Format<const W: u32, const F: u32>: Sealed {
     ghost least: { 6 ≤ F };
 

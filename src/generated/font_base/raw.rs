@@ -236,6 +236,7 @@ pub trait FixedSize: Sized {
 /// ```
 /// [Notation](crate::definitions): [`ScalarLaws`]
 /// </details>
+#[diagnostic::on_unimplemented(note = "`record!` makes a scalar of a `struct` of scalars")]
 pub trait Scalar: FixedSize {
     /// The raw bytes.
     type Raw: BeByteArray;

@@ -24,6 +24,7 @@ use crate::font_fixed::{FixedI16, FixedI32, FixedI64};
 /// ```
 /// [Notation](crate::definitions)
 /// </details>
+#[diagnostic::on_unimplemented(note = "in a function of all formats, write this in a `where`")]
 pub trait Format<const W: u32, const F: u32>: Sealed {}
 
 // No other crate can name it.
