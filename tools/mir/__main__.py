@@ -62,7 +62,7 @@ def run(root: Path, options: set[str]) -> int:
     crates = kept.left(ROOT, names) if is_left else copy["crates"]
     both = read(root, sources, crates)
     declarations = declared.faults(root, sources.files, sources.lines)
-    faults = report(both, [*declarations, *by_hand.faults(root)])
+    faults = report(both, [*declarations, *by_hand.faults(root, sources.lines)])
     if "--mutants" in options and not faults:
         faults += mutants.report(root, both, crates)
     if "--proved" in options:

@@ -1,69 +1,103 @@
-"""What files by hand may add beside the erased ones: nothing that a user's call finds in place of
-what is compared. rustc takes an inherent function before that of a trait, and what a root declares
-before what it has by `*`."""
+"""What files by hand have beside the erased ones: what `by_hand.txt` lists, of which each line was
+judged. So a user's call finds nothing of theirs in place of what is compared: rustc takes what is
+inherent before what is of a trait, a method by value before one by reference, and what a root
+declares before what it has by `*`.
 
+As rustc tells: which files and variables it reads, what has a body and a name, also within another,
+and what is `unsafe` or gives a symbol its name. As words, for what other targets have and what has
+no body: attributes, macros, other `impl`s, and what roots declare."""
+
+import os
 import re
-from collections.abc import Iterator
+import subprocess
+import tempfile
+from collections.abc import Iterable, Iterator
 from pathlib import Path
 
 from declared import words
+from packages import ENVIRONMENT
+from rust import PLACE
 
-# All inherent functions by hand, whose names no trait has, and all imports of roots.
-INHERENT = {"iter", "lit"}
-IMPORTS = {
-    "pub use font_types :: * ;",
-    "pub use record :: RecordField ;",
-    "pub use generated :: * ;",
-}
-# Of each package, the module that its root has by `*`.
-EXPORTED = {".": "font_types/mod.rs", "variations": "mod.rs"}
+KEPT = {*Path(__file__).with_name("by_hand.txt").read_text().splitlines()}
 
-OF_TRAIT = re.compile(r"\bimpl\b(?:(?! fn )[^{])*? for (?!<)[^{]*\{|\btrait \w+[^{]*\{")
-ITEM = r"\b(?:mod|fn|struct|enum|union|trait|type|const|static|macro_rules !) (\w+)"
-# A macro that might write functions: but these, and what is given to `literal`.
-MACRO = re.compile(
-    r"\b(?!(?:macro_rules ! (?:literal|record) \{|(?:assert|compile_error|include_str) ! \("
-    r"|literal ! \{(?:(?! (?:fn|impl) )[^{}])*\}))(?:\w+ )! [\w\[({]+"
+# What cargo checks, with what that depends on. The library for C never unwinds; the example has what
+# `record` writes for a user.
+TARGETS = ((".", "--example=dump"), (".", "--bin=fontval"), ("c", "--lib"))
+BUILDS = (("release", "unwind", TARGETS[:2]), ("dev", "abort", TARGETS))
+FLAGS = "--cap-lints=allow --force-warn=unsafe_code --emit=mir -Ztrim-diagnostic-paths=no -Cpanic="
+
+WARNING = re.compile(r"^(\S+?):\d+:\d+: warning: (.*)$", re.M)
+BODY = re.compile(r"^(?!alloc\d|[ /}]|$)(.*?)(?: =)?(?: \{| const .*;)?$", re.M)
+ERASED = re.compile(r"\w+ (?:font_\w+|generated)::")
+TEXT = re.compile(r"""(?!"[\w./]+")"(?:[^"\\]|\\.)*"|("[^"]*")|'(?:[^'\\]|\\.[^']*)'""")
+FORM = (
+    r"# (?:! )?\[ (?:inline|must_use|allow|warn|deny|diagnostic|path|doc =) [^\]]*\]|"
+    r"(# (?:! )?\[ [^\]]*\](?: # \[ [^\]]*\])*[^#;{(\[]*|\b(?:macro_rules ! \S+|\w+ ! (?=[\[({])|"
+    r"impl\b[^{]*(?:[<(,;=] \{|\{ (?:type [^;]*; )*\}))"
 )
+ITEM = r"|(?:pub )?\b(?:use|mod|type|struct|enum|union|trait|extern)\b[^;{]*[;{]"
 
 
-def end_of(text: str, start: int) -> int:
-    """Returns where the brace that is open before `start` ends."""
-    depth, at = 1, start
-    while depth:
-        depth, at = depth + {"{": 1, "}": -1}.get(text[at], 0), at + 1
-    return at
+def told(root: Path, erased: set[str]) -> Iterator[str]:
+    """Yields what rustc tells of all but erased files."""
+    for profile, panic, targets in BUILDS:
+        with tempfile.TemporaryDirectory() as room:
+            cargo = f"cargo check --message-format=short --profile={profile} --target-dir={room}"
+            env = os.environ | ENVIRONMENT | {"RUSTFLAGS": FLAGS + panic}
+            for package, target in targets:
+                command, where = [*cargo.split(), target], root / package
+                run = subprocess.run(command, cwd=where, env=env, capture_output=True, text=True)
+                if run.returncode:
+                    yield f"what rustc refuses: {run.stderr}"
+                    return
+                for file, message in WARNING.findall(run.stderr):
+                    path = (where / file).resolve().relative_to(root)
+                    yield f"{str(path).split('generated/')[0]}: {message}"
+            for path in Path(room).glob("*/*/*.d"):
+                crate, text = path.name.split("-")[0], path.read_text()
+                where = root / ("c" if crate == "font_types" else "")
+                yield from re.findall("^# env-dep:.*", text, re.M)
+                for file in re.findall(r"^(\S+):$", text, re.M):
+                    it = str((where / file).resolve()).removeprefix(f"{root}/")
+                    if it not in erased and crate != "dump":
+                        yield f"{crate} reads {it}"
+                if crate != "fontval":
+                    yield from bodies(where, path.with_suffix(".mir").read_text(), crate == "dump")
 
 
-def without_traits(text: str) -> str:
-    """Returns words without texts, and without the bodies of traits and of their `impl`s."""
-    text = re.sub(r'"(?:[^"\\]|\\.)*"', '""', text)
-    while found := OF_TRAIT.search(text):
-        text = text[: found.start()] + text[end_of(text, found.end()) :]
-    return text
+def bodies(where: Path, mir: str, is_of_user: bool) -> Iterator[str]:
+    """Yields what has a body and a name by hand, with its signature; of a user, what he is given."""
+
+    def head(place: re.Match[str]) -> str:
+        first, column, end, end_column = map(int, place.groups()[1:])
+        lines = (where / place[1]).read_text().split("\n")[first - 1 : end]
+        lines[-1] = lines[-1][: end_column - 1]
+        return f"<{' '.join(' '.join(lines)[column - 1 :].split())}>"
+
+    for body in BODY.findall(mir):
+        files = [it for it, *_ in PLACE.findall(body)]
+        name = re.split(r"\(|: ", PLACE.sub("", body))[0].split("::")[-1]
+        if name[-1] in "}]":
+            continue
+        if is_of_user:
+            if any("examples/" not in it for it in files):
+                yield f"a user has {''.join(map(head, PLACE.finditer(body)))}::{name}"
+        elif not ERASED.match(body) or any("generated/" not in it for it in files):
+            yield re.sub("closure@[^}]*", "closure", PLACE.sub(head, body))
 
 
-def names(text: str) -> list[str]:
-    """Returns the names that a module of erased Rust exports."""
-    used = " ".join(re.findall(r"\bpub use (.*?) ;", text))
-    of_lists = re.findall(r"\w+(?= ?(?:[,}]|$))", used)
-    return [*of_lists, *re.findall(rf"\bpub (?:const (?=fn))?{ITEM}", text)]
+def worded(root: Path) -> Iterator[str]:
+    """Yields what has no body, or that of another target."""
+    for path in {it.split(" reads ")[1] for it in KEPT if it.endswith(".rs")}:
+        if "/host/" not in path:
+            text = words((root / path).read_text(), "crate")
+            text = TEXT.sub(lambda it: it[1] or '""', text)
+            form = FORM + ITEM * path.endswith(("lib.rs", "main.rs")) + ")"
+            yield from (f"{path}: {it.strip()}" for it in re.findall(form, text) if it)
 
 
-def faults(root: Path) -> Iterator[str]:
-    """Yields what a file by hand has and may not have."""
-    for package, module in EXPORTED.items():
-        source = root / package / "src"
-        exported = names(words((source / "generated" / module).read_text(), "crate"))
-        for path in sorted(source.glob("*.rs")):
-            text = without_traits(words(path.read_text(), "crate"))
-            for name in re.findall(r"\bfn (\S+)", text):
-                if name not in INHERENT:
-                    yield f"{path}: a function by hand that is of no trait: `{name}`"
-            for found in MACRO.findall(text):
-                yield f"{path}: a macro that may write functions: `{found}`"
-            if path.name == "lib.rs":
-                for it in {*re.findall(r"(?:\bpub )?\buse [^;]*;", text)} - IMPORTS:
-                    yield f"{path}: an import that may hide another: `{it}`"
-                for it in {*re.findall(ITEM, text)} & {*exported}:
-                    yield f"{path}: what hides an export: `{it}`"
+def faults(root: Path, erased: Iterable[str]) -> Iterator[str]:
+    """Yields what files by hand have and `by_hand.txt` does not, and the other way."""
+    found = {*worded(root), *told(root, {*erased})}
+    yield from (f"by hand, and not in by_hand.txt: {it}" for it in sorted(found - KEPT))
+    yield from (f"in by_hand.txt, and not by hand: {it}" for it in sorted(KEPT - found))

@@ -26,15 +26,6 @@ PACKAGES = (
 # What the program has in place of Rattle's std, in its module `host`, as that of Rust differs.
 STAND_INS = r"(?<!:)\bhost(?=::(?:alloc::(?:AllocError|Vec)|hex)\b)"
 
-# What makes a path, a module or a macro another than it reads: a module that is named as one of std
-# or a type, a file that is not generated, and a macro of std.
-FOREIGN = re.compile(
-    r"\bmod\s+(?:r#)?(?:core|std|alloc|bool|char|str|[iu](?:\d+|size))\b|\binclude!|"
-    r"\bmacro_rules\s*!\s*(?:r#)?(?:assert|matches|write)\b|\bmacro_use\b|\bextern\s+crate\b|"
-    r"\bcfg(?:_attr)?\s*\((?!\s*(?:doc|doctest|target_pointer_width = \"16\"|all\(target_os = )[^\w])|"
-    r'\bpath\s*=\s*r?#*"(?!(?:\.\./\.\./src/)?generated/[\w/]+\.rs")'
-)
-
 # What cargo reads beside `Cargo.toml`; of that, what is not built here, and what is.
 CONFIGURATION = ".cargo", "build.rs", "rust-toolchain", "rust-toolchain.toml"
 UNBUILT = {"dev-dependencies", "profile", "workspace"}
@@ -71,10 +62,6 @@ class Sources:
             built["package"] = {key: it for key, it in manifest["package"].items() if key in BUILT}
             if built != MANIFESTS[package]:
                 raise ValueError(f"{package}/Cargo.toml builds otherwise: {built}")
-            for path in (root / package / "src").rglob("*.rs"):
-                is_host = path.parent == root / "src/bin/fontval/host"
-                if not is_host and (found := FOREIGN.search(path.read_text())):
-                    raise ValueError(f"{path}: what could be another than it reads: `{found[0]}`")
             for path in sorted((root / folder).rglob("*.rs")):
                 text, first = path.read_text(), module or path.relative_to(root / folder).parts[0]
                 self.lines[str(path.relative_to(root))] = text.split("\n")

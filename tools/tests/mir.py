@@ -2,6 +2,7 @@
 that `rt lib` proved; `mir/attacks.json.xz` is the MIR that `rt` left of them. What no MIR tells is
 tried in a copy of the repository."""
 
+import contextlib
 import json
 import lzma
 import os
@@ -12,6 +13,7 @@ import sys
 import tempfile
 import types
 import unittest
+from collections.abc import Iterator
 from typing import Any
 
 ROOT = pathlib.Path(__file__).resolve().parents[2]
@@ -94,6 +96,7 @@ ROWS = [
 IDS, PADDING = "src/generated/font_ids/glyph_id.rs", "src/generated/font_decimal/padding.rs"
 RAW, FORMAT = "src/generated/font_base/raw.rs", "c/src/generated/font_c/format.rs"
 F4DOT12 = "src/generated/font_fixed/fixed_i16/f4dot12.rs"
+FIXED = "src/generated/font_fixed/fixed_i32/fixed.rs"
 EDITS = [
     (F4DOT12, "FixedI16<12>", "FixedI16<10>", "`type F4Dot12 = FixedI16 < 10 > ;`"),
     (F4DOT12, "Format<16, 12> for", "Format<16, 10> for", "`impl Format < 16 , 10 > for"),
@@ -102,7 +105,7 @@ EDITS = [
     (PADDING, "    Left,", "    Left = 0x0,", "`enum Align { Left = 0x0 , Center , Right }`"),
     (PADDING, "pub plus: bool", "pub zeros: bool", "`pub zeros : bool "),
     (IDS, "fn to_u32(self) -> u32", "fn to_u32(self) -> i32", "- > i32 `"),
-    (IDS, "fn to_u32", "#[cfg(debug_assertions)]\n    fn to_u32", "`cfg(`"),
+    (IDS, "fn to_u32", "#[cfg(debug_assertions)]\n    fn to_u32", "`# [ cfg ("),
     (IDS, "self.0 as u32", 'if cfg!(panic = "abort") { 1 } else { 2 }', "`cfg ! ( panic"),
     (IDS, "self.0 as u32", 'option_env!("A").map_or(1, |_| 2)', "`option_env ! ("),
     (IDS, "self.0 as u32", "{ type T = u32; self.0 as T }", "`type T = u32 ;`"),
@@ -114,40 +117,120 @@ EDITS = [
     (RAW, "pub trait Scalar", "/* a */ pub trait Scalar", "a comment in brackets"),
     (FORMAT, "#[repr(C)]\n", "", "layouts of other types"),
     (FORMAT, "no_mangle", 'export_name = "fty_fixed_div"', "`# [ unsafe ( export_name ="),
-    ("src/lib.rs", "mod literal;", "mod literal;\nmod i32;", "than it reads: `mod i32`"),
-    ("src/lib.rs", "mod literal;", "macro_rules! assert { () => {} }", "`macro_rules! assert`"),
-    ("c/src/lib.rs", "mod font_base;", "mod font_base;\nmod core {}", "`mod core`"),
-    ("c/src/lib.rs", "src/generated/font_geom", "src/other/font_geom", "`path ="),
-    ("c/src/lib.rs", "src/generated/font_geom", "src/generated/../font_geom", "`path ="),
-    ("src/lib.rs", "[path =", "[cfg_attr(not(debug_assertions), path =", "`cfg_attr(`"),
-    ("src/lib.rs", "[path =", '[cfg_attr(not(feature = "std"), path =', "`cfg_attr(`"),
-    ("src/lib.rs", "mod literal;", "macro_rules ! matches { () => {} }", "`macro_rules ! matches`"),
-    ("src/lib.rs", "mod literal;", "macro_rules! r#matches {}", "a raw name"),
-    ("src/host/mod.rs", "", "macro_rules! matches { () => {} }", "`macro_rules! matches`"),
-    ("src/lib.rs", "mod literal;", "#[macro_use]\nmod literal;", "`macro_use`"),
-    ("src/lib.rs", "mod literal;", "extern crate other as core;", "`extern crate`"),
     (FORMAT, 'extern "C" ', "", "other exports"),
     ("Cargo.toml", "[dev-", '[dependencies]\ncore = { path = "core" }\n[dev-', "builds otherwise"),
     ("Cargo.toml", "publish =", 'build = "src/make.rs"\npublish =', "builds otherwise"),
     ("variations/Cargo.toml", 'path = ".."', 'path = "vendor"', "builds otherwise"),
+]
+
+# Edits of files by hand, and which line is not listed: of words, each apart; and of what rustc tells.
+LINUX = 'cfg(all(target_os = "linux", panic = "abort"))'
+AFTER = "impl FusedIterator"
+TAGS = "../src/generated/font_tags"
+OTHER = "".join(
+    f'#[path = "{TAGS}/{it}.rs"] mod {it};' for it in ("longdatetime", "tag", "version")
+)
+OTHER += "pub use {longdatetime::*, tag::*, version::*};"
+WORDS = [
+    ("src/lib.rs", "mod literal;", "mod literal;\nmod i32;", "mod i32 ;"),
+    ("src/lib.rs", "mod literal;", "macro_rules ! assert { () => {} }", "macro_rules ! assert"),
+    ("src/lib.rs", "mod literal;", "#[macro_use]\nmod literal;", "# [ macro_use ]"),
+    ("src/lib.rs", "mod literal;", "extern crate other as core;", "extern crate other as core ;"),
+    ("src/lib.rs", "mod literal;", "mod literal;\npub mod laws {}", "pub mod laws {"),
+    ("src/lib.rs", "pub use f", "pub type u16 = u32;\npub use f", "pub type u16 = u32 ;"),
+    (
+        "src/lib.rs",
+        "pub use f",
+        "pub use traits::delta_sum;\npub use f",
+        "pub use traits :: delta_sum ;",
+    ),
+    ("src/lib.rs", "[path =", "[cfg_attr(windows, path =", "# [ cfg_attr ( windows , path = "),
+    ("src/lib.rs", "[path =", f"[{LINUX}]\n#[path =", "# [ cfg ( all ( target_os ="),
+    ("src/bin/fontval/main.rs", "mod host;", "mod host;\nmod core {}", "mod core {"),
+    ("variations/src/lib.rs", "mod generated;", "mod generated;\nmod maps {}", "mod maps {"),
+    ("c/src/lib.rs", "mod font_base;", "mod font_base;\nmod core {}", "mod core {"),
+    ("c/src/lib.rs", "[path =", "[path/**/=", "a comment in brackets"),
+    ("src/literal.rs", "literal! {", "literal! { impl Tag { } ", "impl Tag { }"),
+    ("src/literal.rs", "literal! {", "other! { }\nliteral! {", "other !"),
+    ("src/traits.rs", AFTER, f"#[cfg(windows)]\n{AFTER}", "# [ cfg ( windows ) ]"),
     (
         "src/traits.rs",
-        "pub fn iter(",
-        "pub fn to_raw(self) {}\n    pub fn iter(",
-        "no trait: `to_raw`",
+        AFTER,
+        f'#[doc = "]"] #[cfg(windows)] #[doc = ""]\n{AFTER}',
+        "cfg ( windows ) ]",
     ),
-    ("src/literal.rs", "    )*};", "    impl $Type<9> { fn read() {} } )*};", "no trait: `read`"),
-    ("src/literal.rs", "literal! {", "literal! { impl Tag { } ", "may write functions: `literal !"),
-    ("src/literal.rs", "literal! {", "other! { impl Tag {} }\nliteral! {", "functions: `other ! {"),
+    ("src/traits.rs", AFTER, f"cfg_select! {{ windows => {{}} }}\n{AFTER}", "cfg_select !"),
+    (
+        "src/traits.rs",
+        AFTER,
+        f"impl crate::RingElement for Fixed {{}}\n{AFTER}",
+        "impl RingElement for",
+    ),
+    (
+        "src/traits.rs",
+        AFTER,
+        f"impl Law for Fixed<{{ 1 }}> {{}}\n{AFTER}",
+        "impl Law for Fixed < {",
+    ),
+    ("src/traits.rs", "    fn as_ref", "    #[link_name]\n    fn as_ref", "# [ link_name ]"),
+]
+TOLD = [
+    ("src/traits.rs", AFTER, f"mod late;\n{AFTER}", "font_types_proved reads src/traits/late.rs"),
+    (
+        "src/traits/late.rs",
+        "",
+        "impl crate::Tag { fn late() {} }",
+        "late::<impl crate::Tag>::late()",
+    ),
+    ("src/traits.rs", "    pub const ID", "    const LEN: u8 = 4;\n    pub const ID", "::LEN: u8"),
+    ("src/traits.rs", "pub fn iter(", "fn to_raw(self) {}\n    pub fn iter(", "::to_raw(_1: "),
+    (
+        "src/traits.rs",
+        "self.as_str()",
+        "impl crate::Tag { fn inner() {} }\n        self.as_str()",
+        "as_ref::<impl crate::Tag>::inner()",
+    ),
+    (
+        "src/traits.rs",
+        AFTER,
+        f"impl Drop for Predefined {{ fn drop(&mut self) {{}} }}\n{AFTER}",
+        "::drop(",
+    ),
+    ("src/traits.rs", AFTER, f'core::arch::global_asm!("");\n{AFTER}', "`core::arch::global_asm`"),
+    (
+        "src/traits.rs",
+        "    fn extend",
+        "    #[unsafe(no_mangle)]\n    fn extend",
+        "`no_mangle` method",
+    ),
+    ("src/traits.rs", "let mut sum", 'option_env!("A");\nlet mut sum', "# env-dep:A"),
+    ("src/record.rs", "    fn read_f", "    fn len(self) {}\n\n    fn read_f", "RecordField::len("),
+    (
+        "src/record.rs",
+        "    fn from_raw(raw: S",
+        "    fn read_at(_: &[u8], _: usize) -> Option<Self> { None }\n    fn from_raw(raw: S",
+        "for [T; N]>::read_at(",
+    ),
     (
         "src/record.rs",
         "impl $crate::TableH",
-        "impl $Name { fn $x() {} }\nimpl $crate::TableH",
-        "`$`",
+        "impl $Name { fn x() {} }\nimpl $crate::TableH",
+        "a user has <impl $Name>::x",
     ),
-    ("src/lib.rs", "pub use font_t", "pub use traits::delta_sum;\npub use font_t", "hide another"),
-    ("src/lib.rs", "mod literal;", "mod literal;\npub mod laws {}", "what hides an export: `laws`"),
-    ("variations/src/lib.rs", "mod generated;", "mod generated;\nmod maps {}", "export: `maps`"),
+    (
+        "src/literal.rs",
+        "    )*};",
+        "    impl $Type<9> { fn read() {} } )*};",
+        "<impl $Type<9>>::read()",
+    ),
+    (
+        FIXED,
+        "    fn div",
+        "    #[unsafe(no_mangle)]\n    fn div",
+        "src/: declaration of a `no_mangle` m",
+    ),
+    ("c/src/lib.rs", "src/generated/font_tags/mod", "examples/o", "font_types reads examples/o.rs"),
+    ("examples/o.rs", "", OTHER, "font_types reads examples/o.rs"),
 ]
 
 # Functions that are refused, not compared: they read through one of several locals or references,
@@ -177,33 +260,57 @@ def differing(source: str) -> set[str]:
 
 
 def refusal(root: pathlib.Path) -> str:
-    """Returns why the declarations in a copy of the repository are not those of the source."""
+    """Returns why the words in a copy of the repository are not those of the source, or not known."""
     try:
         sources = Sources(root)
         declarations = declared.faults(root, sources.files, sources.lines)
-        return "\n".join([*declarations, *by_hand.faults(root)])
+        return "\n".join([*declarations, *{*by_hand.worded(root)} - by_hand.KEPT])
     except ValueError as error:
         return str(error)
 
 
+@contextlib.contextmanager
+def copied() -> Iterator[pathlib.Path]:
+    """Copies what tools/mir compiles of the repository."""
+    with tempfile.TemporaryDirectory() as room:
+        root = pathlib.Path(room).resolve()
+        for name in ("src", "c/src", "variations/src", "examples"):
+            shutil.copytree(ROOT / name, root / name)
+        for name in ("Cargo.toml", "c/Cargo.toml", "variations/Cargo.toml", "variations/README.md"):
+            shutil.copy(ROOT / name, root / name)
+        (root / "crates").symlink_to(ROOT / "crates")
+        yield root
+
+
+def edit(path: pathlib.Path, old: str, new: str) -> str:
+    """Replaces a text that a file has, or makes a file, and returns what it was."""
+    path.parent.mkdir(exist_ok=True)
+    right = path.read_text() if old else ""
+    assert old in right, path
+    path.write_text(right.replace(old, new, 1) if old else new)
+    return right
+
+
 class Mir(unittest.TestCase):
     def test_declarations(self) -> None:
-        with tempfile.TemporaryDirectory() as room:
-            root = pathlib.Path(room)
-            for name in ("", "c", "variations"):
-                shutil.copytree(ROOT / name / "src", root / name / "src")
-                shutil.copy(ROOT / name / "Cargo.toml", root / name)
-            (root / "crates").symlink_to(ROOT / "crates")
+        with copied() as root:
             self.assertEqual(refusal(root), "")
-            (root / "src/host").mkdir()
-            (root / "src/host/mod.rs").touch()
-            for name, old, new, word in EDITS:
-                right = (root / name).read_text()
-                (root / name).write_text(right.replace(old, new) or new)
+            for name, old, new, word in [*EDITS, *WORDS]:
+                right = edit(root / name, old, new)
                 with self.subTest(new):
-                    self.assertTrue(old in right, name)
                     self.assertIn(word, refusal(root))
                 (root / name).write_text(right)
+
+    def test_by_hand(self) -> None:
+        with copied() as root:
+            lines = {*Sources(root).lines}
+            self.assertEqual([*by_hand.faults(root, lines)], [])
+            for name, old, new, _ in TOLD:
+                edit(root / name, old, new)
+            faults = "\n".join(by_hand.faults(root, lines))
+            for *_, line in TOLD:
+                with self.subTest(line):
+                    self.assertIn(line, faults)
 
     def test_wrong_rust(self) -> None:
         right = (FILES / "attacks.rs").read_text()
