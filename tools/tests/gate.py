@@ -20,7 +20,8 @@ TOOLS_FOR_C = "c++ pkg-config nm readelf ldd".split()
 TOOLS_FOR_CALLS = "c++filt objdump".split()
 # What the gate and its stand-ins call of the system.
 SYSTEM = (
-    "bash sh env basename cat cmp dirname git grep make mktemp nproc paste rm sed sort tail tee wc"
+    "bash sh env basename cat cmp dirname find git grep make mkdir mktemp nproc paste rm sed sort"
+    " tail tee uniq wc"
 )
 
 # Faults, beside a call that fails, with which the gate fails, and what others leave out.
@@ -65,7 +66,7 @@ case $call in
     echo "3 passed, $([ "$FAIL" = crate ] && echo 1 || echo 0) failed"
     [ "$FAIL" != "status of ci" ] ;;
 "goals ") grep -q passed ;;
-"cargo doc"*) [ "$RUSTDOCFLAGS" = -Dwarnings ] ;;
+"cargo doc"*) mkdir -p "$CARGO_TARGET_DIR/doc" && [ "$RUSTDOCFLAGS" = -Dwarnings ] ;;
 esac
 """.replace(
     "MEMORY", MEMORY
