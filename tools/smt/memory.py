@@ -99,6 +99,9 @@ class Memory:
 
     def __init__(self, goals: Goals, is_big: bool = False) -> None:
         self.goals, self.order = goals, 1 if is_big else -1
+        # Numbers of several bytes that were stored, by the identities of these. The bytes are kept,
+        # so that no others have their identities.
+        self.stored: dict[tuple[int, ...], tuple[list[BitVecRef], BitVecRef]] = {}
 
     def object(self, address: Address, state: State) -> Object:
         if address.object is None:
@@ -196,9 +199,12 @@ class Memory:
                 return first.address
             raise Unsupported("a load of what is no address")
         numbers = [it if isinstance(it, Number) else NOTHING for it in cells]
-        bits = [it.bits for it in numbers[:: self.order]]
-        together = settle(z3.Concat(bits)) if len(bits) > 1 else bits[0]
-        return Number(together, any_of(*(it.poison for it in numbers)))
+        bits = [it.bits for it in numbers]
+        key, poison = tuple(it.get_id() for it in bits), any_of(*(it.poison for it in numbers))
+        if key in self.stored:
+            return Number(self.stored[key][1], poison)
+        together = settle(z3.Concat(bits[:: self.order])) if len(bits) > 1 else bits[0]
+        return Number(together, poison)
 
     def store(self, type_: str, value: Value, address: Address, align: int, state: State) -> None:
         if isinstance(value, list):
@@ -215,4 +221,5 @@ class Memory:
             bytes_ = range(0, 8 * stored_size(type_), 8)[:: -self.order]
             parts = [settle(z3.Extract(i + 7, i, value.bits)) for i in bytes_]
             parts = parts if len(parts) > 1 else [value.bits]
+            self.stored[tuple(it.get_id() for it in parts)] = parts, value.bits
             self.write(address, [Number(it, value.poison) for it in parts], align, state)
