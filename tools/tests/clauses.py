@@ -1,6 +1,7 @@
 """Each public function, trait method, law and export has a contract for what it gives: its clauses
 name `result`, if it returns something, and `x.new` of each `x: &mut T`; and each `impl` of a trait
-has a ghost item. PROMISES lists the functions with a precondition."""
+has a ghost item. PROMISES lists the functions with a precondition, and the page of each has a
+section `# Panics`."""
 
 import pathlib
 import re
@@ -75,9 +76,15 @@ def before(words: list[str], at: int) -> list[str]:
     return words[first:at]
 
 
-def missing(eraser: Eraser, required: set[str]) -> Iterator[tuple[int, str]]:
+def page(eraser: Eraser, at: int) -> str:
+    """Returns what stands before a function, from the last empty line on."""
+    before = eraser.tokens[: eraser.places[at]]
+    return "".join(token.text for token in before).rpartition("\n\n")[2]
+
+
+def missing(eraser: Eraser, required: set[str] | None) -> Iterator[tuple[int, str]]:
     """Yields each place of a file where a contract lacks something, and what. Adds the names of
-    functions with a precondition."""
+    functions with a precondition, which a user can call."""
     words = eraser.words
     traits: list[range] = []
     for at in eraser.visited:
@@ -95,7 +102,11 @@ def missing(eraser: Eraser, required: set[str]) -> Iterator[tuple[int, str]]:
             if "crate" in kinds or "pub" not in kinds and not any(at in it for it in traits):
                 continue
             clauses = eraser.header_and_clauses(at).clauses
-            required |= {words[at + 1] for clause in clauses if words[clause.start] == "requires"}
+            has_condition = any(words[clause.start] == "requires" for clause in clauses)
+            if has_condition and required is not None:
+                required.add(words[at + 1])
+                if "/// # Panics" not in page(eraser, at):
+                    yield at, f"`{words[at + 1]}`: its page has no section `# Panics`"
             text = "".join(says(eraser, clause) for clause in clauses)
             is_whole = re.search(r" result (?!\. \d)", text)
             for name in gives(eraser, at):
@@ -114,7 +125,7 @@ class Contracts(unittest.TestCase):
                 eraser = Eraser(path.read_text(), Crate(crate, "tests"), False)
                 functions += eraser.words.count("fn")
                 is_exported = path.stem not in RAW_VALUES
-                for at, what in missing(eraser, required if is_exported else set()):
+                for at, what in missing(eraser, required if is_exported else None):
                     line = eraser.tokens[eraser.places[at]].line
                     faults.append(f"{path.relative_to(ROOT)}:{line}: {what}")
         self.assertFalse(faults, "\n".join(faults))

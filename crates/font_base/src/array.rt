@@ -313,6 +313,10 @@ impl<'a, T: Scalar> ScalarArray<'a, T> {
     /// # Errors
     ///
     /// If there is none, returns the index at which it could be inserted.
+    ///
+    /// # Panics
+    ///
+    /// Panics if the closure does.
     pub fn binary_search_by<F: Fn(T) -> Ordering>(&self, compare: F) -> Result<usize, usize>
         requires { F.IsAlwaysCallable compare }
         ensures found { IfOk result (λ i. i < array_len self.now) }
@@ -330,6 +334,10 @@ impl<'a, T: Scalar> ScalarArray<'a, T> {
     /// # Errors
     ///
     /// If there is none, returns the index at which it could be inserted.
+    ///
+    /// # Panics
+    ///
+    /// Panics if the closure does.
     pub fn binary_search_by_key<K: Ord + Drop, F: Fn(T) -> K>(
         &self,
         key: &K,
@@ -353,6 +361,10 @@ impl<'a, T: Scalar> ScalarArray<'a, T> {
     /// let ends = ScalarArray::<u16>::new(&[0x00, 0x5A, 0x00, 0x7A, 0xFF, 0xFF]).unwrap();
     /// assert_eq!(ends.partition_point(|end| end < 0x7A), 1);
     /// ```
+    ///
+    /// # Panics
+    ///
+    /// Panics if the closure does.
     #[tactic(auto, using(crate::proofs::Elements::len_rules))]
     pub fn partition_point<F: Fn(T) -> bool>(&self, is_before: F) -> usize
         requires { F.IsAlwaysCallable is_before }

@@ -48,7 +48,11 @@ pub trait TableHeader: Sized {
     // these bytes are the encoded header
     ghost decodes: { List ℕ → Self → Type 0 };
 
-    /// Decodes a header from exactly `BYTE_LEN` bytes. May panic at any other length.
+    /// Decodes a header from exactly `BYTE_LEN` bytes.
+    ///
+    /// # Panics
+    ///
+    /// May panic if there are fewer or more.
     fn decode(bytes: &[u8]) -> Self
         requires { length bytes.now ≡ BYTE_LEN }
         ensures { decodes bytes.now result };

@@ -30,8 +30,12 @@ impl<T: Mul<Output = T> + Copy> BoundingBox<T> {
     /// Multiplies each coordinate by `factor`.
     ///
     /// A negative factor swaps minimum and maximum: call `normalize` afterwards. Each product
-    /// rounds, wraps or panics as `*` of the type does: over `Fixed`, a coordinate that leaves 32
-    /// bits wraps.
+    /// rounds and wraps as `*` of the type does: over `Fixed`, a coordinate that leaves 32 bits
+    /// wraps.
+    ///
+    /// # Panics
+    ///
+    /// Panics if `*` of the type does, such as that of `i32` on overflow in a debug build.
     pub fn scale(&self, factor: T) -> Self
         requires { CanScale T.can_mul self.now factor }
         ensures { IsScaled T.mul_gives self.now factor result }

@@ -135,6 +135,10 @@ impl<T: Copy> Matrix<T> {
     }
 
     /// Applies a function to each element, in the order of `elements`.
+    ///
+    /// # Panics
+    ///
+    /// Panics if the function does.
     #[inline(always)]
     pub fn map<U: Copy, F: FnMut(T) -> U>(self, mut f: F) -> Matrix<U>
         requires { CanCallEach F.pre F.step f (elements_of self) }
@@ -168,6 +172,10 @@ impl<T: MatrixElement> Matrix<T> {
 
     /// Returns `(xx * x + xy * y + dx, yx * x + yy * y + dy)`, the image of the point `(x, y)`, by
     /// the operators of the elements: those of [`Fixed`] wrap on overflow.
+    ///
+    /// # Panics
+    ///
+    /// Panics if an operator of the elements does.
     pub fn transform(&self, x: T, y: T) -> (T, T)
         requires { CanTransform T.can_mul T.mul_gives T.can_add T.add_gives self.now x y }
         ensures { IsTransformed T.mul_gives T.add_gives self.now x y result.0 result.1 }

@@ -48,6 +48,10 @@ impl<T> Point<T> {
     /// Applies a function to each coordinate, x first.
     ///
     /// `point.map(|n| n / 2)` halves both.
+    ///
+    /// # Panics
+    ///
+    /// Panics if the function does.
     #[inline(always)]
     pub fn map<U, F: FnMut(T) -> U>(self, mut f: F) -> Point<U>
         requires { CanCallEach F.pre F.step f (self.x ∷ self.y ∷ []) }

@@ -2,7 +2,7 @@
 
 ghost use Rattle.std.specs.Prelude.{◌≡◌, ◌↔◌, ◌^◌, ◌+ℤ◌, ◌*ℤ◌, ◌≤ℤ◌, ◌<ℤ◌, pos, nat_lt, Some};
 ghost use Rattle.std.specs.Prelude.{IsSome, IfSome, refl};
-ghost use Rattle.std.specs.Fmt.{decimal, signed_decimal};
+ghost use Rattle.std.specs.Fmt.{decimal, signed_decimal, styled_decimal, styled_signed_decimal};
 ghost use Rattle.std.proofs.Common.{lit<};
 ghost use Rattle.font_base.specs.Wrap.{FitsBits, fits_bits, wrap};
 ghost use Rattle.font_base.specs.Bytes.{bytes_of, numeral, signed_numeral};
@@ -102,6 +102,9 @@ impl FWord {
 
 impl fmt::Display for FWord {
     ghost output = { λ word. Some (signed_decimal (fword_number word)) };
+
+    ghost styled_output = { λ word options. Some
+        (styled_signed_decimal options (fword_number word)) };
 
     fn fmt<W: fmt::Write>(&self, f: &mut fmt::Formatter<W>) -> fmt::Result {
         fmt::Display::fmt(&self.0, f)
@@ -258,6 +261,8 @@ impl UfWord {
 
 impl fmt::Display for UfWord {
     ghost output = { λ word. Some (decimal (ufword_number word)) };
+
+    ghost styled_output = { λ word options. Some (styled_decimal options (ufword_number word)) };
 
     fn fmt<W: fmt::Write>(&self, f: &mut fmt::Formatter<W>) -> fmt::Result {
         fmt::Display::fmt(&self.0, f)

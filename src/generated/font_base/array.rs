@@ -377,6 +377,10 @@ impl<'a, T: Scalar> ScalarArray<'a, T> {
     ///
     /// If there is none, returns the index at which it could be inserted.
     ///
+    /// # Panics
+    ///
+    /// Panics if the closure does.
+    ///
     /// <details><summary>Contract</summary>
     ///
     /// ```text
@@ -400,6 +404,10 @@ impl<'a, T: Scalar> ScalarArray<'a, T> {
     /// # Errors
     ///
     /// If there is none, returns the index at which it could be inserted.
+    ///
+    /// # Panics
+    ///
+    /// Panics if the closure does.
     ///
     /// <details><summary>Contract</summary>
     ///
@@ -429,6 +437,10 @@ impl<'a, T: Scalar> ScalarArray<'a, T> {
     /// let ends = ScalarArray::<u16>::new(&[0x00, 0x5A, 0x00, 0x7A, 0xFF, 0xFF]).unwrap();
     /// assert_eq!(ends.partition_point(|end| end < 0x7A), 1);
     /// ```
+    ///
+    /// # Panics
+    ///
+    /// Panics if the closure does.
     ///
     /// <details><summary>Contract</summary>
     ///

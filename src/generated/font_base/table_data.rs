@@ -56,7 +56,11 @@ pub trait TableHeader: Sized {
     /// The size of the header, in bytes.
     const BYTE_LEN: usize;
 
-    /// Decodes a header from exactly `BYTE_LEN` bytes. May panic at any other length.
+    /// Decodes a header from exactly `BYTE_LEN` bytes.
+    ///
+    /// # Panics
+    ///
+    /// May panic if there are fewer or more.
     ///
     /// <details><summary>Contract</summary>
     ///

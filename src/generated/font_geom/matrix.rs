@@ -147,6 +147,10 @@ impl<T: Copy> Matrix<T> {
 
     /// Applies a function to each element, in the order of `elements`.
     ///
+    /// # Panics
+    ///
+    /// Panics if the function does.
+    ///
     /// <details><summary>Contract</summary>
     ///
     /// ```text
@@ -187,6 +191,10 @@ impl<T: MatrixElement> Matrix<T> {
 
     /// Returns `(xx * x + xy * y + dx, yx * x + yy * y + dy)`, the image of the point `(x, y)`, by
     /// the operators of the elements: those of [`Fixed`] wrap on overflow.
+    ///
+    /// # Panics
+    ///
+    /// Panics if an operator of the elements does.
     ///
     /// <details><summary>Contract</summary>
     ///

@@ -71,6 +71,10 @@ impl<T> Point<T> {
     ///
     /// `point.map(|n| n / 2)` halves both.
     ///
+    /// # Panics
+    ///
+    /// Panics if the function does.
+    ///
     /// <details><summary>Contract</summary>
     ///
     /// ```text

@@ -162,6 +162,8 @@ impl FWord {
 ///
 /// ```text
 /// ghost output = { λ word. Some (signed_decimal (fword_number word)) };
+/// ghost styled_output = { λ word options. Some
+///     (styled_signed_decimal options (fword_number word)) };
 /// ```
 /// [Notation](crate::definitions): [`fword_number`]
 /// </details>
@@ -408,6 +410,7 @@ impl UfWord {
 ///
 /// ```text
 /// ghost output = { λ word. Some (decimal (ufword_number word)) };
+/// ghost styled_output = { λ word options. Some (styled_decimal options (ufword_number word)) };
 /// ```
 /// [Notation](crate::definitions): [`ufword_number`]
 /// </details>
