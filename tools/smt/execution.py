@@ -120,10 +120,28 @@ class Machine:
             elif it.op == "call" and (called := self.called(it)):
                 self.call(it, called, state._replace(at=index + 1), paths)
                 return
+            elif it.op == "select" and self.forks(it, state._replace(at=index + 1), paths):
+                return
             elif it.op != "phi":
                 result = steps.step(self, it, state)
                 if result is not None:
                     state.names[it.target] = self.described(result, it, state)
+
+    def forks(self, it: Instruction, state: State, paths: list[State]) -> bool:
+        """Returns whether a `select` chooses between addresses of two objects. Then the path goes on
+        in two, one for each."""
+        choice, *both = (steps.operand(self, text, state) for text in split_commas(it.text))
+        found = [one for one in both if isinstance(one, Address)]
+        yes = is_set(number_of(choice).bits)
+        is_known = z3.is_true(yes) or z3.is_false(yes)
+        if is_known or len({one.object for one in found} - {None}) < 2:
+            return False
+        for one, condition in zip(found, (yes, z3.Not(yes))):
+            path, poison = state.copy(), any_of(number_of(choice).poison, one.poison)
+            path.conditions.append(condition)
+            path.names[it.target] = one._replace(poison=poison)
+            paths.append(path)
+        return True
 
     def described(self, value: Value, it: Instruction, state: State) -> Value:
         """The metadata of a load or of a call: `!range` makes another value poison, `!noundef`

@@ -48,6 +48,11 @@ load i32, ptr %q, align 1 | %p = alloca i64, align 8; store i64 0, ptr %p, align
 %p = alloca i64, align 8; store i64 0, ptr %p, align 8; %q = getelementptr i8, ptr %p, i64 2; \
 load i32, ptr %q, align 4 | %p = alloca i64, align 8; store i64 0, ptr %p, align 8; \
 %q = getelementptr i8, ptr %p, i64 2; load i32, ptr %q, align 2
+%p = alloca i32, align 4; store i32 0, ptr %p, align 4; %q = alloca i32, align 4; \
+%c = icmp ult i32 %x, %y; %s = select i1 %c, ptr %p, ptr %q; load i32, ptr %s, align 4 | \
+%p = alloca i32, align 4; store i32 0, ptr %p, align 4; %q = alloca i32, align 4; \
+%c = icmp ult i32 %x, %y; %s = select i1 %c, ptr %p, ptr %q; store i32 %x, ptr %q, align 4; \
+load i32, ptr %s, align 4
 %c = icmp samesign ult i32 %x, %y; zext i1 %c to i32 | %c = icmp ult i32 %x, %y; zext i1 %c to i32
 %c = icmp ult i32 %x, %y; call void @llvm.assume(i1 %c); add i32 0, 0 | \
 %c = icmp eq i32 %x, %x; call void @llvm.assume(i1 %c); add i32 0, 0"""
