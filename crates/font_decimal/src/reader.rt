@@ -99,7 +99,10 @@ fn nearest_raw(digits: &[u8], f: u32) -> Option<u64>
         → Rounds (sign_text negative ++ digits.now) f (signed negative magnitude))) }
 {
     // Rust, which does not check the precondition, panics here.
-    prove!(matches!(f, 6..=30), "the number of fraction bits is not from 6 to 30");
+    prove!(
+        matches!(f, 6..=30),
+        "the number of fraction bits is not from 6 to 30"
+    );
     // An integer part that exceeds 2^63 raw units is out of every range.
     let (whole, len) = whole_digits(digits, (1 << (63 - f)) + 1);
     if len == 0 {
