@@ -14,7 +14,8 @@ int main(void) {
     int32_t area = fty_fixed_mul(width, width);                      /* 147456 */
     char text[FTY_DECIMAL_ROOM];
     size_t length;
-    status = fty_fixed_format(area, text, sizeof text, &length);     /* 2.25 */
+    fty_buffer buffer = {text, sizeof text};
+    status = fty_fixed_format(area, buffer, &length);                /* 2.25 */
     fty_matrix half = {32768, 0, 0, 32768, 0, 0};
     fty_point moved = fty_matrix_image(half, (fty_point){width, 0}); /* (49152, 0) */
     /* end */
@@ -23,10 +24,10 @@ int main(void) {
     static const uint8_t bytes[] = {0, 1, 0x00, 0x01, 0x80, 0x00};
     /* begin */
     fty_view table = {bytes, sizeof bytes};
-    fty_view values = fty_items(table, 2, fty_u16(table, 0), 4); /* one of 4 bytes */
-    int32_t value = fty_i32(values, 0);                          /* 98304 */
-    status = fty_read_i32(values, 4, &value);                    /* out of bounds */
-    int32_t missing = fty_i32(values, 4);                        /* 0 */
+    fty_view values = fty_items(fty_from(table, 2), fty_u16(table, 0), 4); /* one of 4 bytes */
+    int32_t value = fty_i32(values, 0);                                    /* 98304 */
+    status = fty_read_i32(values, 4, &value);                              /* out of bounds */
+    int32_t missing = fty_i32(values, 4);                                  /* 0 */
     /* end */
     printf("%s: %d %d\n", fty_status_text(status), (int)value, (int)missing);
     /* begin */

@@ -24,7 +24,7 @@ public:
     std::string text() const {
         char out[FTY_DECIMAL_ROOM];
         std::size_t length = 0;
-        if (fty_fixed_format(bits_, out, sizeof out, &length) != FTY_OK)
+        if (fty_fixed_format(bits_, {out, sizeof out}, &length) != FTY_OK)
             throw std::logic_error("the room is enough for each decimal");
         return std::string(out, length);
     }
@@ -41,8 +41,8 @@ private:
 static std::int64_t delta_sum(const std::vector<std::int32_t> &scalars,
                               const std::vector<std::int32_t> &deltas) {
     std::int64_t sum = 0;
-    const fty_status status =
-        fty_delta_sum(scalars.data(), scalars.size(), deltas.data(), deltas.size(), &sum);
+    const fty_status status = fty_delta_sum({scalars.data(), scalars.size()},
+                                            {deltas.data(), deltas.size()}, &sum);
     if (status != FTY_OK)
         throw std::invalid_argument(fty_status_text(status));
     return sum;

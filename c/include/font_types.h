@@ -7,7 +7,7 @@
  * In C, in this file: `static inline`, and constant expressions from C++14 on, except
  * fty_put_bytes and fty_write_bytes. A program that calls only these needs no library.
  *
- *     views         fty_{absent,part,items,from}  fty_at_offset{16,24,32}
+ *     views         fty_{absent,first,items,from}  fty_at_offset{16,24,32}
  *     fields        fty_{u8,i8,u16,i16,u24,i24,u32,i32,u64,i64,uint}
  *       checked     fty_read_{u8,i8,u16,i16,u24,i24,u32,i32,u64,i64,uint}
  *       in turn     fty_take_{u8,i8,u16,i16,u24,i24,u32,i32,u64,i64,uint}  fty_take
@@ -17,8 +17,8 @@
  *                   fty_write_offset{16,24,32}
  *       in turn     fty_put_{u8,i8,u16,i16,u24,i24,u32,i32,u64,i64,bytes,zeros_to_4}
  *                   fty_reserve  fty_span_from
- *     rounding      fty_round_{i16,i32,i64}  fty_fixed_{floor,ceil,round,round_away}
- *                   fty_f26dot6_{floor,ceil,round}
+ *     rounding      fty_checked_round_{i16,i32,i64}  fty_f26dot6_{floor,ceil,round}
+ *                   fty_fixed_{floor,ceil,round,round_away}
  *     conversions   fty_fixed_to_{i32,f26dot6,f2dot14}  fty_f26dot6_to_i32  fty_fixed_from_i32
  *                   fty_f48dot16_to_{i64,fixed}  fty_f2dot30_to_{fixed,f2dot14}
  *     arithmetic    fty_fixed_{add,sub,mul}  fty_f26dot6_mul  fty_mul_div_i64
@@ -31,7 +31,7 @@
  *     deltas        fty_delta_{sum,set_sum}  fty_checked_add_delta_{i16,u16}
  *     decimals      fty_parse_{i16,i32,i64}  fty_{format,format_padded}
  *                   fty_{fixed,f2dot14,f26dot6}_{parse,format,format_padded}
- *     tags          fty_tag_{new,validate,to_text}
+ *     tags          fty_tag_{new_checked,validate,to_text}
  *     version       fty_version
  *
  * Each function that the library exports has a contract that is proved; its comment states it.
@@ -44,12 +44,16 @@
  * width less 2: up to 14 of an int16_t, and up to 30 of an int32_t or int64_t.
  *
  * "Wraps" means that the result is taken modulo 2^w, in two's complement of the w bits
- * of its type, or as many as the comment says. (Functions in C add as unsigned, which
- * `-fsanitize=integer` of Clang reports for negative numbers, even if the result does not wrap.)
- * "Half up" rounds ties toward positive infinity; "half away from zero" to the greater magnitude.
+ * of its type, or as many as the comment says. "Half up" rounds ties toward positive infinity;
+ * "half away from zero" to the greater magnitude.
+ *
+ * No function takes two integers of different kinds, which a compiler would take in any order. An
+ * offset is in a call of its own, a number of fraction bits is a fty_fraction, and an array that
+ * goes with another integer is one value with its length: a fty_view, fty_span, fty_buffer or
+ * fty_numbers.
  *
  * A function that can fail returns a fty_status, and stores its result where its last
- * argument points; what writes text stores the text at `out`, and its length there; a
+ * argument points; what writes text stores the text in a fty_buffer, and its length there; a
  * fty_put or fty_write function stores bytes in its span. If two errors apply, the status is the
  * first that the comment lists. If a function fails, it leaves all memory unchanged,
  * except that fty_tag_validate stores the index of the invalid byte.
@@ -63,8 +67,8 @@
  *
  * What a call writes may be uninitialized. The library is Rust, which asks for initialized
  * values there: callers rely on its object code, which loads nothing from where it writes
- * before it has stored there (this is tested, not proved), except for the points that
- * fty_matrix_images transforms. If you do not want to rely on that, initialize it.
+ * before it has stored there (this is tested, not proved), except for what is changed in place, by
+ * fty_matrix_images and fty_checked_add_delta_*. If you do not want to rely on that, initialize it.
  */
 #ifndef FONT_TYPES_H
 #define FONT_TYPES_H
@@ -102,8 +106,8 @@
 #define FTY_API_MUST_USE
 #define FTY_API_MOVE memmove
 #endif
-/* Returns the bytes at `at` by one load, which compilers inline sooner than bytes and shifts, except
- * in a constant expression. */
+/* Returns the bytes at `at` by one load, which compilers inline sooner than bytes and shifts,
+ * except in a constant expression. */
 #define FTY_API_LOAD(TYPE, SWAP)
 #if defined(__has_builtin) && defined(__BYTE_ORDER__)
 #if __has_builtin(__builtin_bswap64) && __BYTE_ORDER__ == __ORDER_LITTLE_ENDIAN__ \
@@ -154,23 +158,29 @@ typedef enum fty_status {
     /* 9 was the status of delta sets with deltas of 32 bits until 0.4 */
     FTY_TAG_LENGTH = 10,      /**< not 1 to 4 bytes; from fty_tag_validate: four spaces */
     FTY_TAG_BYTE = 11,        /**< a byte outside 0x20 to 0x7E, or a leading space; from
-                                   fty_tag_new also a printable byte after a space */
+                                   fty_tag_new_checked also a printable byte after a space */
     FTY_TAG_AFTER_SPACE = 12  /**< from fty_tag_validate: a printable byte after a space */
 } fty_status;
 
-/**
- * Fraction bits of formats that fonts and their tools use. OpenType has data types for 16.16
- * (Fixed) and 2.14 (F2DOT14).
- */
-enum {
-    FTY_F2DOT14_BITS = 14, /**< 2.14, int16_t */
-    FTY_F4DOT12_BITS = 12, /**< 4.12, int16_t */
-    FTY_F6DOT10_BITS = 10, /**< 6.10, int16_t */
-    FTY_FIXED_BITS = 16,   /**< 16.16, int32_t */
-    FTY_F26DOT6_BITS = 6,  /**< 26.6, int32_t */
-    FTY_F2DOT30_BITS = 30, /**< 2.30, int32_t */
-    FTY_F48DOT16_BITS = 16 /**< 48.16, int64_t */
-};
+/** A number of fraction bits: FTY_FIXED or its like, or FTY_FRACTION(20). */
+typedef struct fty_fraction {
+    uint32_t bits; /**< the number */
+} fty_fraction;
+
+#ifdef __cplusplus
+#define FTY_FRACTION(BITS) (fty_fraction{BITS})
+#else
+#define FTY_FRACTION(BITS) ((fty_fraction){BITS})
+#endif
+/* Formats that fonts and their tools use. OpenType has data types for 16.16 (Fixed) and 2.14
+ * (F2DOT14). */
+#define FTY_F2DOT14 FTY_FRACTION(14)  /**< 2.14, int16_t */
+#define FTY_F4DOT12 FTY_FRACTION(12)  /**< 4.12, int16_t */
+#define FTY_F6DOT10 FTY_FRACTION(10)  /**< 6.10, int16_t */
+#define FTY_FIXED FTY_FRACTION(16)    /**< 16.16, int32_t */
+#define FTY_F26DOT6 FTY_FRACTION(6)   /**< 26.6, int32_t */
+#define FTY_F2DOT30 FTY_FRACTION(30)  /**< 2.30, int32_t */
+#define FTY_F48DOT16 FTY_FRACTION(16) /**< 48.16, int64_t */
 
 /* ---- bytes at a pointer, for a caller that knows that they are there; a view checks it ---- */
 
@@ -266,33 +276,25 @@ FTY_API_INLINE int fty_api_within(
     fty_view view, size_t offset, size_t length) FTY_API_NOEXCEPT {
     return length <= view.length && offset <= view.length - length;
 }
-
-/* Bytes that are within a view. Null plus 0 is undefined behavior in C. */
-FTY_API_INLINE fty_view fty_api_view(
-    fty_view view, size_t offset, size_t length) FTY_API_NOEXCEPT {
-    fty_view part = {FTY_API_NULL, length};
-    part.bytes = offset == 0 ? view.bytes : view.bytes + offset;
-    return part;
-}
 /** @endcond */
 
-/** The `length` bytes at an offset; absent unless all of them are there. */
-FTY_API_INLINE fty_view fty_part(
-    fty_view view, size_t offset, size_t length) FTY_API_NOEXCEPT {
-    if (!fty_api_within(view, offset, length))
+/** The first `length` bytes; absent unless all of them are there. */
+FTY_API_INLINE fty_view fty_first(fty_view view, size_t length) FTY_API_NOEXCEPT {
+    if (length > view.length)
         return fty_absent();
-    return fty_api_view(view, offset, length);
+    view.length = length;
+    return view;
 }
 
 /**
- * `count` items of `size` bytes at an offset; absent unless all of them are there. A size that
- * is no constant, as one that the font has, costs a division.
+ * The first `count` items of `size` bytes, or `size` items of `count` bytes; absent unless all of
+ * them are there. If neither is a constant, it costs a division.
  */
-FTY_API_INLINE fty_view fty_items(
-    fty_view view, size_t offset, size_t count, size_t size) FTY_API_NOEXCEPT {
-    if (offset > view.length || (size != 0 && count > (view.length - offset) / size))
+FTY_API_INLINE fty_view fty_items(fty_view view, size_t count, size_t size) FTY_API_NOEXCEPT {
+    if (size != 0 && count > view.length / size)
         return fty_absent();
-    return fty_api_view(view, offset, count * size);
+    view.length = count * size;
+    return view;
 }
 
 /**
@@ -302,7 +304,10 @@ FTY_API_INLINE fty_view fty_items(
 FTY_API_INLINE fty_view fty_from(fty_view view, size_t offset) FTY_API_NOEXCEPT {
     if (offset > view.length)
         return fty_absent();
-    return fty_api_view(view, offset, view.length - offset);
+    if (offset != 0) /* for null plus 0 is undefined behavior in C */
+        view.bytes += offset;
+    view.length -= offset;
+    return view;
 }
 
 /** @cond */
@@ -502,34 +507,21 @@ FTY_API_INLINE int64_t fty_i64(fty_view view, size_t offset) FTY_API_NOEXCEPT {
     return fty_peek_i64(view.bytes + offset);
 }
 
-/**
- * Reads an unsigned integer of `size` bytes, 1 to 4, or fails by FTY_OUT_OF_BOUNDS, also if
- * `size` is another.
- */
-FTY_API_INLINE fty_status fty_read_uint(
-    fty_view view, size_t offset, size_t size, uint32_t *value) FTY_API_NOEXCEPT {
-    if (!fty_api_within(view, offset, size))
-        return FTY_OUT_OF_BOUNDS;
-    switch (size) {
-    case 1: *value = view.bytes[offset]; return FTY_OK;
-    case 2: *value = fty_peek_u16(view.bytes + offset); return FTY_OK;
-    case 3: *value = fty_peek_u24(view.bytes + offset); return FTY_OK;
-    case 4: *value = fty_peek_u32(view.bytes + offset); return FTY_OK;
+/** Reads the unsigned integer of all 1 to 4 bytes of a view, or fails by FTY_OUT_OF_BOUNDS. */
+FTY_API_INLINE fty_status fty_read_uint(fty_view view, uint32_t *value) FTY_API_NOEXCEPT {
+    switch (view.length) {
+    case 1: *value = view.bytes[0]; return FTY_OK;
+    case 2: *value = fty_peek_u16(view.bytes); return FTY_OK;
+    case 3: *value = fty_peek_u24(view.bytes); return FTY_OK;
+    case 4: *value = fty_peek_u32(view.bytes); return FTY_OK;
     default: return FTY_OUT_OF_BOUNDS;
     }
 }
 
-/** An unsigned integer of `size` bytes, 1 to 4. 0 may mean that it is missing. */
-FTY_API_INLINE uint32_t fty_uint(fty_view view, size_t offset, size_t size) FTY_API_NOEXCEPT {
-    if (!fty_api_within(view, offset, size))
-        return 0;
-    switch (size) {
-    case 1: return view.bytes[offset];
-    case 2: return fty_peek_u16(view.bytes + offset);
-    case 3: return fty_peek_u24(view.bytes + offset);
-    case 4: return fty_peek_u32(view.bytes + offset);
-    default: return 0;
-    }
+/** The unsigned integer of all 1 to 4 bytes of a view. 0 may mean that it is missing. */
+FTY_API_INLINE uint32_t fty_uint(fty_view view) FTY_API_NOEXCEPT {
+    uint32_t value = 0;
+    return fty_read_uint(view, &value) == FTY_OK ? value : 0;
 }
 
 /* ---- fields in turn: the first of a view, which moves to the bytes after it, for a reader that
@@ -550,8 +542,8 @@ FTY_API_INLINE fty_view fty_take(fty_view *rest, size_t length) FTY_API_NOEXCEPT
     const fty_view all = *rest;
     if (length > all.length)
         return fty_absent();
-    *rest = fty_api_view(all, length, all.length - length);
-    return fty_api_view(all, 0, length);
+    *rest = fty_from(all, length);
+    return fty_first(all, length);
 }
 
 /** Takes a uint8. Fails by FTY_OUT_OF_BOUNDS, and the view stays. */
@@ -640,17 +632,16 @@ FTY_API_INLINE fty_status fty_take_i64(fty_view *rest, int64_t *value) FTY_API_N
  */
 FTY_API_INLINE fty_status fty_take_uint(
     fty_view *rest, size_t size, uint32_t *value) FTY_API_NOEXCEPT {
-    const fty_status status = fty_read_uint(*rest, 0, size, value);
+    const fty_status status = fty_read_uint(fty_first(*rest, size), value);
     if (status == FTY_OK)
-        *rest = fty_api_view(*rest, size, rest->length - size);
+        *rest = fty_from(*rest, size);
     return status;
 }
 
 /* ---- writing: a span is room for bytes, as a view is bytes that are there. fty_put_u16 and its
  *      like write at its start and move it on; fty_write_u16 and its like leave it where it is, for
- *      a field that is written later, fty_write_u16(fty_span_from(table, 4), value). No call takes
- *      two integers, which a compiler takes in any order. Join calls by && or ||: the operands of |
- *      run in any order ---- */
+ *      a field that is written later, fty_write_u16(fty_span_from(table, 4), value). Join calls by
+ *      && or ||: the operands of | run in any order ---- */
 
 /**
  * Room for bytes of a font: {bytes, length}, as a fty_view is, but not constant. Copy a span before
@@ -775,11 +766,12 @@ FTY_API_INLINE fty_status fty_put_i64(fty_span *rest, int64_t value) FTY_API_NOE
 }
 
 /**
- * Copies the bytes of a view, also if they overlap those that are written. Fails by
- * FTY_OUT_OF_BOUNDS if the view or the span is absent, or the view is longer; and the span stays.
+ * Copies the bytes of a view, also if they overlap those that are written. A view of no bytes may
+ * be absent: nothing is written. Fails by FTY_OUT_OF_BOUNDS if the span is absent, or shorter than
+ * the view; and the span stays.
  */
 FTY_API_RUN fty_status fty_put_bytes(fty_span *rest, fty_view view) FTY_API_NOEXCEPT {
-    if (view.bytes == FTY_API_NULL || rest->bytes == FTY_API_NULL || view.length > rest->length)
+    if (rest->bytes == FTY_API_NULL || view.length > rest->length)
         return FTY_OUT_OF_BOUNDS;
     if (view.length != 0)
         FTY_API_MOVE(fty_api_room(rest, view.length), view.bytes, view.length);
@@ -911,13 +903,13 @@ FTY_API_INLINE fty_status fty_write_offset32(
 
 /**
  * Rounds a 16-bit raw value to that of the nearest integer, half up: of 1.5, that of 2.
- * Fails by FTY_BAD_FRACTION, FTY_OUT_OF_RANGE. (The Rust types wrap.)
+ * Fails by FTY_BAD_FRACTION, FTY_OUT_OF_RANGE.
  */
-FTY_API_INLINE fty_status fty_round_i16(
-    int16_t bits, uint32_t fraction_bits, int16_t *rounded) FTY_API_NOEXCEPT {
-    if (fraction_bits < 6 || fraction_bits > 14)
+FTY_API_INLINE fty_status fty_checked_round_i16(
+    int16_t bits, fty_fraction fraction, int16_t *rounded) FTY_API_NOEXCEPT {
+    if (fraction.bits < 6 || fraction.bits > 14)
         return FTY_BAD_FRACTION;
-    const int32_t half = INT32_C(1) << (fraction_bits - 1);
+    const int32_t half = INT32_C(1) << (fraction.bits - 1);
     if (bits > INT16_MAX - half)
         return FTY_OUT_OF_RANGE;
     *rounded = FTY_API_AS(int16_t, (bits + half) & -2 * half);
@@ -926,13 +918,13 @@ FTY_API_INLINE fty_status fty_round_i16(
 
 /**
  * Rounds a 32-bit raw value to that of the nearest integer, half up: of 1.5, that of 2.
- * Fails by FTY_BAD_FRACTION, FTY_OUT_OF_RANGE. (The Rust types wrap.)
+ * Fails by FTY_BAD_FRACTION, FTY_OUT_OF_RANGE.
  */
-FTY_API_INLINE fty_status fty_round_i32(
-    int32_t bits, uint32_t fraction_bits, int32_t *rounded) FTY_API_NOEXCEPT {
-    if (fraction_bits < 6 || fraction_bits > 30)
+FTY_API_INLINE fty_status fty_checked_round_i32(
+    int32_t bits, fty_fraction fraction, int32_t *rounded) FTY_API_NOEXCEPT {
+    if (fraction.bits < 6 || fraction.bits > 30)
         return FTY_BAD_FRACTION;
-    const int32_t half = INT32_C(1) << (fraction_bits - 1);
+    const int32_t half = INT32_C(1) << (fraction.bits - 1);
     if (bits > INT32_MAX - half)
         return FTY_OUT_OF_RANGE;
     *rounded = (bits + half) & -2 * half;
@@ -941,13 +933,13 @@ FTY_API_INLINE fty_status fty_round_i32(
 
 /**
  * Rounds a 64-bit raw value to that of the nearest integer, half up: of 1.5, that of 2.
- * Fails by FTY_BAD_FRACTION, FTY_OUT_OF_RANGE. (The Rust types wrap.)
+ * Fails by FTY_BAD_FRACTION, FTY_OUT_OF_RANGE.
  */
-FTY_API_INLINE fty_status fty_round_i64(
-    int64_t bits, uint32_t fraction_bits, int64_t *rounded) FTY_API_NOEXCEPT {
-    if (fraction_bits < 6 || fraction_bits > 30)
+FTY_API_INLINE fty_status fty_checked_round_i64(
+    int64_t bits, fty_fraction fraction, int64_t *rounded) FTY_API_NOEXCEPT {
+    if (fraction.bits < 6 || fraction.bits > 30)
         return FTY_BAD_FRACTION;
-    const int64_t half = INT64_C(1) << (fraction_bits - 1);
+    const int64_t half = INT64_C(1) << (fraction.bits - 1);
     if (bits > INT64_MAX - half)
         return FTY_OUT_OF_RANGE;
     *rounded = (bits + half) & -2 * half;
@@ -1163,14 +1155,31 @@ void fty_matrix_images(const fty_matrix *m, fty_point *points,
 
 /* ---- sums of deltas: scalars are 16.16, deltas font units, sums 48.16 ---- */
 
+/** Numbers of 32 bits: {numbers, count}. */
+typedef struct fty_numbers {
+    const int32_t *numbers; /**< the first; may be null if there are none */
+    size_t count;           /**< how many there are */
+} fty_numbers;
+
+/** @cond */
+FTY_API_MUST_USE fty_status fty_api_delta_sum(
+    const int32_t *scalars, size_t scalar_count, const int32_t *deltas, size_t delta_count,
+    int64_t *sum) FTY_API_NOEXCEPT;
+
+FTY_API_MUST_USE fty_status fty_api_delta_set_sum(
+    const int32_t *scalars, size_t scalar_count, const uint8_t *set, size_t set_length,
+    uint16_t word_count, int64_t *sum) FTY_API_NOEXCEPT;
+/** @endcond */
+
 /**
  * The exact sum of scalar times delta over all items, even if partial sums overflow. Deltas may
  * also be raw values of f fraction bits; the sum then has f + 16.
  * Fails by FTY_COUNT_MISMATCH, FTY_OUT_OF_RANGE.
  */
-FTY_API_MUST_USE fty_status fty_delta_sum(
-    const int32_t *scalars, size_t scalar_count, const int32_t *deltas, size_t delta_count,
-    int64_t *sum) FTY_API_NOEXCEPT;
+FTY_API_RUN fty_status fty_delta_sum(
+    fty_numbers scalars, fty_numbers deltas, int64_t *sum) FTY_API_NOEXCEPT {
+    return fty_api_delta_sum(scalars.numbers, scalars.count, deltas.numbers, deltas.count, sum);
+}
 
 /**
  * The same over a delta set of an item variation store. `word_count` is the field of the
@@ -1182,24 +1191,29 @@ FTY_API_MUST_USE fty_status fty_delta_sum(
  * 15 bits of `word_count` exceed the number of scalars; and, only if bit 0x8000 is set, by
  * FTY_OUT_OF_RANGE.
  */
-FTY_API_MUST_USE fty_status fty_delta_set_sum(
-    const int32_t *scalars, size_t scalar_count, const uint8_t *set, size_t set_length,
-    uint16_t word_count, int64_t *sum) FTY_API_NOEXCEPT;
-
-/** The number of bytes of a delta set of `count` deltas, for fty_delta_set_sum. */
-FTY_API_INLINE size_t fty_delta_set_length(
-    uint16_t word_count, uint16_t count) FTY_API_NOEXCEPT {
-    const size_t size = (word_count & 0x8000) != 0 ? 2 : 1;
-    return size * (FTY_API_AS(size_t, count) + (word_count & 0x7FFFu));
+FTY_API_RUN fty_status fty_delta_set_sum(
+    fty_numbers scalars, fty_view set, uint16_t word_count, int64_t *sum) FTY_API_NOEXCEPT {
+    return fty_api_delta_set_sum(
+        scalars.numbers, scalars.count, set.bytes, set.length, word_count, sum);
 }
 
-/** Font units plus a 48.16 delta, to the nearest font unit, half up, or FTY_OUT_OF_RANGE. */
-FTY_API_MUST_USE fty_status fty_checked_add_delta_i16(
-    int16_t base, int64_t delta, int16_t *units) FTY_API_NOEXCEPT;
+/** The number of bytes of a delta set that has a delta for each scalar. */
+FTY_API_INLINE size_t fty_delta_set_length(
+    fty_numbers scalars, uint16_t word_count) FTY_API_NOEXCEPT {
+    const size_t size = (word_count & 0x8000) != 0 ? 2 : 1;
+    return size * (scalars.count + (word_count & 0x7FFFu));
+}
 
-/** Unsigned font units, as advances are, plus a 48.16 delta, rounded in the same way. */
+/**
+ * Adds a 48.16 delta to font units, in place, and rounds to the nearest font unit, half up. Fails
+ * by FTY_OUT_OF_RANGE.
+ */
+FTY_API_MUST_USE fty_status fty_checked_add_delta_i16(
+    int64_t delta, int16_t *units) FTY_API_NOEXCEPT;
+
+/** The same for unsigned font units, as advances are. */
 FTY_API_MUST_USE fty_status fty_checked_add_delta_u16(
-    uint16_t base, int64_t delta, uint16_t *units) FTY_API_NOEXCEPT;
+    int64_t delta, uint16_t *units) FTY_API_NOEXCEPT;
 
 /* ---- decimal text: `-` if negative, digits, and optionally a point and digits ---- */
 
@@ -1208,32 +1222,30 @@ FTY_API_MUST_USE fty_status fty_checked_add_delta_u16(
  * Fails by FTY_BAD_FRACTION, FTY_NOT_DECIMAL, FTY_OUT_OF_RANGE.
  */
 FTY_API_MUST_USE fty_status fty_parse_i16(
-    const char *text, size_t length, uint32_t fraction_bits, int16_t *bits) FTY_API_NOEXCEPT;
+    const char *text, size_t length, fty_fraction fraction, int16_t *bits) FTY_API_NOEXCEPT;
 
 /**
  * Parses a decimal of any length as the nearest 32-bit raw value, half away from zero.
  * Fails by FTY_BAD_FRACTION, FTY_NOT_DECIMAL, FTY_OUT_OF_RANGE.
  */
 FTY_API_MUST_USE fty_status fty_parse_i32(
-    const char *text, size_t length, uint32_t fraction_bits, int32_t *bits) FTY_API_NOEXCEPT;
+    const char *text, size_t length, fty_fraction fraction, int32_t *bits) FTY_API_NOEXCEPT;
 
 /**
  * Parses a decimal of any length as the nearest 64-bit raw value, half away from zero.
  * Fails by FTY_BAD_FRACTION, FTY_NOT_DECIMAL, FTY_OUT_OF_RANGE.
  */
 FTY_API_MUST_USE fty_status fty_parse_i64(
-    const char *text, size_t length, uint32_t fraction_bits, int64_t *bits) FTY_API_NOEXCEPT;
+    const char *text, size_t length, fty_fraction fraction, int64_t *bits) FTY_API_NOEXCEPT;
+
+/** A buffer for text: {text, room}. */
+typedef struct fty_buffer {
+    char *text;  /**< the first byte; may be null if there is no room */
+    size_t room; /**< how many bytes the buffer has */
+} fty_buffer;
 
 /** Room for a decimal, which has at most 22 bytes, and for a NUL, which is not written. */
 enum { FTY_DECIMAL_ROOM = 24 };
-
-/**
- * Writes the shortest decimal that parses back to the raw value; of these, the
- * nearest, and of two, the one farther from zero. The raw value may have any width.
- * Fails by FTY_BAD_FRACTION, FTY_BUFFER_TOO_SMALL.
- */
-FTY_API_MUST_USE fty_status fty_format(
-    int64_t bits, uint32_t fraction_bits, char *out, size_t room, size_t *length) FTY_API_NOEXCEPT;
 
 /** The alignment of padded text. */
 typedef enum fty_align {
@@ -1255,68 +1267,89 @@ typedef struct fty_pad {
 /** Right-aligned in `WIDTH` bytes, filled with spaces. */
 #define FTY_PAD_INIT(WIDTH) {(WIDTH), ' ', FTY_RIGHT, 0, 0}
 
+/** @cond */
+FTY_API_MUST_USE fty_status fty_api_format(
+    int64_t bits, fty_fraction fraction, char *out, size_t room, size_t *length) FTY_API_NOEXCEPT;
+
+FTY_API_MUST_USE fty_status fty_api_format_padded(
+    int64_t bits, fty_fraction fraction, const fty_pad *pad, char *out, size_t room,
+    size_t *length) FTY_API_NOEXCEPT;
+/** @endcond */
+
+/**
+ * Writes the shortest decimal that parses back to the raw value; of these, the
+ * nearest, and of two, the one farther from zero. The raw value may have any width.
+ * Fails by FTY_BAD_FRACTION, FTY_BUFFER_TOO_SMALL.
+ */
+FTY_API_RUN fty_status fty_format(
+    int64_t bits, fty_fraction fraction, fty_buffer out, size_t *length) FTY_API_NOEXCEPT {
+    return fty_api_format(bits, fraction, out.text, out.room, length);
+}
+
 /**
  * As fty_format, padded. Room for `width` bytes is enough, or for 22 if that is more.
  * Fails by FTY_BAD_FRACTION, FTY_BAD_PAD, FTY_BUFFER_TOO_SMALL.
  */
-FTY_API_MUST_USE fty_status fty_format_padded(
-    int64_t bits, uint32_t fraction_bits, const fty_pad *pad, char *out, size_t room,
-    size_t *length) FTY_API_NOEXCEPT;
+FTY_API_RUN fty_status fty_format_padded(
+    int64_t bits, fty_fraction fraction, const fty_pad *pad, fty_buffer out,
+    size_t *length) FTY_API_NOEXCEPT {
+    return fty_api_format_padded(bits, fraction, pad, out.text, out.room, length);
+}
 
 /* ---- the functions of three formats, with their types and fraction bits ---- */
 
 /** fty_parse_i32 of 16.16. */
 FTY_API_RUN fty_status fty_fixed_parse(
     const char *text, size_t length, int32_t *bits) FTY_API_NOEXCEPT {
-    return fty_parse_i32(text, length, FTY_FIXED_BITS, bits);
+    return fty_parse_i32(text, length, FTY_FIXED, bits);
 }
 
 /** fty_format of 16.16. */
 FTY_API_RUN fty_status fty_fixed_format(
-    int32_t bits, char *out, size_t room, size_t *length) FTY_API_NOEXCEPT {
-    return fty_format(bits, FTY_FIXED_BITS, out, room, length);
+    int32_t bits, fty_buffer out, size_t *length) FTY_API_NOEXCEPT {
+    return fty_format(bits, FTY_FIXED, out, length);
 }
 
 /** fty_format_padded of 16.16. */
 FTY_API_RUN fty_status fty_fixed_format_padded(
-    int32_t bits, const fty_pad *pad, char *out, size_t room, size_t *length) FTY_API_NOEXCEPT {
-    return fty_format_padded(bits, FTY_FIXED_BITS, pad, out, room, length);
+    int32_t bits, const fty_pad *pad, fty_buffer out, size_t *length) FTY_API_NOEXCEPT {
+    return fty_format_padded(bits, FTY_FIXED, pad, out, length);
 }
 
 /** fty_parse_i16 of 2.14. */
 FTY_API_RUN fty_status fty_f2dot14_parse(
     const char *text, size_t length, int16_t *bits) FTY_API_NOEXCEPT {
-    return fty_parse_i16(text, length, FTY_F2DOT14_BITS, bits);
+    return fty_parse_i16(text, length, FTY_F2DOT14, bits);
 }
 
 /** fty_format of 2.14. */
 FTY_API_RUN fty_status fty_f2dot14_format(
-    int16_t bits, char *out, size_t room, size_t *length) FTY_API_NOEXCEPT {
-    return fty_format(bits, FTY_F2DOT14_BITS, out, room, length);
+    int16_t bits, fty_buffer out, size_t *length) FTY_API_NOEXCEPT {
+    return fty_format(bits, FTY_F2DOT14, out, length);
 }
 
 /** fty_format_padded of 2.14. */
 FTY_API_RUN fty_status fty_f2dot14_format_padded(
-    int16_t bits, const fty_pad *pad, char *out, size_t room, size_t *length) FTY_API_NOEXCEPT {
-    return fty_format_padded(bits, FTY_F2DOT14_BITS, pad, out, room, length);
+    int16_t bits, const fty_pad *pad, fty_buffer out, size_t *length) FTY_API_NOEXCEPT {
+    return fty_format_padded(bits, FTY_F2DOT14, pad, out, length);
 }
 
 /** fty_parse_i32 of 26.6. */
 FTY_API_RUN fty_status fty_f26dot6_parse(
     const char *text, size_t length, int32_t *bits) FTY_API_NOEXCEPT {
-    return fty_parse_i32(text, length, FTY_F26DOT6_BITS, bits);
+    return fty_parse_i32(text, length, FTY_F26DOT6, bits);
 }
 
 /** fty_format of 26.6. */
 FTY_API_RUN fty_status fty_f26dot6_format(
-    int32_t bits, char *out, size_t room, size_t *length) FTY_API_NOEXCEPT {
-    return fty_format(bits, FTY_F26DOT6_BITS, out, room, length);
+    int32_t bits, fty_buffer out, size_t *length) FTY_API_NOEXCEPT {
+    return fty_format(bits, FTY_F26DOT6, out, length);
 }
 
 /** fty_format_padded of 26.6. */
 FTY_API_RUN fty_status fty_f26dot6_format_padded(
-    int32_t bits, const fty_pad *pad, char *out, size_t room, size_t *length) FTY_API_NOEXCEPT {
-    return fty_format_padded(bits, FTY_F26DOT6_BITS, pad, out, room, length);
+    int32_t bits, const fty_pad *pad, fty_buffer out, size_t *length) FTY_API_NOEXCEPT {
+    return fty_format_padded(bits, FTY_F26DOT6, pad, out, length);
 }
 
 /* ---- tags, as numbers with the big-endian bytes of the tag ---- */
@@ -1333,7 +1366,7 @@ enum { FTY_TAG_ROOM = 25 };
  * Creates a valid tag from one to four bytes, padding with spaces.
  * Fails by FTY_TAG_LENGTH, FTY_TAG_BYTE.
  */
-FTY_API_MUST_USE fty_status fty_tag_new(
+FTY_API_MUST_USE fty_status fty_tag_new_checked(
     const char *text, size_t length, uint32_t *tag) FTY_API_NOEXCEPT;
 
 /**
@@ -1343,12 +1376,19 @@ FTY_API_MUST_USE fty_status fty_tag_new(
  */
 FTY_API_MUST_USE fty_status fty_tag_validate(uint32_t tag, uint32_t *position) FTY_API_NOEXCEPT;
 
+/** @cond */
+FTY_API_MUST_USE fty_status fty_api_tag_to_text(
+    uint32_t tag, char *out, size_t room, size_t *length) FTY_API_NOEXCEPT;
+/** @endcond */
+
 /**
  * Writes the text of a tag: bytes 0x20 to 0x7E as they are, else {0xNN}.
  * Fails by FTY_BUFFER_TOO_SMALL.
  */
-FTY_API_MUST_USE fty_status fty_tag_to_text(
-    uint32_t tag, char *out, size_t room, size_t *length) FTY_API_NOEXCEPT;
+FTY_API_RUN fty_status fty_tag_to_text(
+    uint32_t tag, fty_buffer out, size_t *length) FTY_API_NOEXCEPT {
+    return fty_api_tag_to_text(tag, out.text, out.room, length);
+}
 
 /* ---- statuses and the version ---- */
 
@@ -1392,6 +1432,7 @@ FTY_API_ASSERT(sizeof(fty_pad) == 2 * sizeof(size_t));
 FTY_API_ASSERT(offsetof(fty_pad, fill) == sizeof(size_t));
 FTY_API_ASSERT(offsetof(fty_view, length) == sizeof(const uint8_t *));
 FTY_API_ASSERT(sizeof(fty_span) == sizeof(fty_view));
+FTY_API_ASSERT(sizeof(fty_fraction) == 4);
 #undef FTY_API_ASSERT
 #endif
 

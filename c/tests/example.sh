@@ -1,9 +1,9 @@
 # The examples: README.md shows one, and cmake builds it.
-[[ $(lines c 'In C') == "$(sed -n '/begin/,/end/s/^    //p' examples/example.c | grep -v '^/\*')" ]]
+is "$(lines c 'In C')" "$(sed -n '/begin/,/end/s/^    //p' examples/example.c | grep -v '^/\*')"
 cc -std=c99 $strict examples/example.c "$archive" -o "$work/example"
-[[ $("$work/example") == "$shown" ]]
+is "$("$work/example")" "$shown"
 c++ -std=c++11 $strict examples/example.cpp "$archive" -o "$work/example"
-[[ $("$work/example") == $'2.25 -0.375 0 120 8\n1e3: not a decimal number' ]]
+is "$("$work/example")" $'2.25 -0.375 0 120 8\n1e3: not a decimal number'
 {
     echo '#include "font_types.h"'
     lines cpp 'Inside your own reader'
@@ -31,7 +31,7 @@ if command -v cmake >/dev/null; then
     with_cmake=("${empty[@]}" CC="${CC:-cc}" cmake "-DCMAKE_PREFIX_PATH=$root" -S "$work/cmake")
     "${with_cmake[@]}" -B "$work/cmake/build" >"$work/log"
     cmake --build "$work/cmake/build" >"$work/log"
-    [[ $("${empty[@]}" "$work/cmake/build/reader") == "$shown" ]]
+    is "$("${empty[@]}" "$work/cmake/build/reader")" "$shown"
     # Another version is not found.
     sed -i "s/font_types $version /font_types 0.6 /" "$work/cmake/CMakeLists.txt"
     fails "${with_cmake[@]}" -B "$work/cmake/other"

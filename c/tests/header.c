@@ -75,14 +75,18 @@ static void values_of_opentype(void) {
     static const uint8_t bytes[] = {0, 1, 0,    8, 0,    2, 0xFF, 0xB0, 0,
                                     2, 0, 1, 0x01, 0xB3, 1, 0xBC, 0,    0};
     const fty_view subtable = {bytes, sizeof bytes}, coverage = fty_at_offset16(subtable, 2);
-    const fty_view range = fty_items(coverage, 4, fty_u16(coverage, 2), 6);
+    const fty_view range = fty_items(fty_from(coverage, 4), fty_u16(coverage, 2), 6);
     STATE(fty_i16(subtable, 6) == -80);
     STATE(range.bytes == bytes + 12 && range.length == 6 && fty_u16(range, 2) == 444);
     STATE(fty_from(subtable, 18).bytes == bytes + 18 && fty_from(subtable, 19).bytes == NULL);
     STATE(fty_at_offset16(subtable, 16).bytes == NULL && fty_u24(subtable, 16) == 0);
     STATE(fty_at_offset24(subtable, 16).bytes == NULL && fty_at_offset32(range, 4).bytes == NULL);
-    STATE(fty_items(subtable, 18, 0, 6).bytes == bytes + 18
-          && fty_items(subtable, 2, 7, 0).bytes == bytes + 2);
+    /* In either order; at the end; of no bytes; and one item too many, or one byte. */
+    STATE(fty_items(subtable, 6, 3).length == 18 && fty_items(subtable, 3, 6).length == 18
+          && fty_items(subtable, 3, 7).bytes == NULL && fty_items(subtable, 7, 3).bytes == NULL
+          && fty_items(fty_from(subtable, 18), 0, 6).bytes == bytes + 18
+          && fty_items(subtable, 7, 0).bytes == bytes && fty_items(subtable, 7, 0).length == 0
+          && fty_first(subtable, 18).length == 18 && fty_first(subtable, 19).bytes == NULL);
     /* More bytes than 16 bits count: a part of no bytes at their end, and a copy. */
     static uint8_t far[2 * 65536] = {0, 1, 0, 0};
     far[65535] = 7;
@@ -114,8 +118,9 @@ static void values_of_opentype(void) {
               && memcmp(last + at, eight.bytes + at, size) == 0
               && fty_write_uint(end, UINT64_MAX) == (size == 8 ? FTY_OK : FTY_OUT_OF_RANGE));
         const uint32_t least = (uint32_t)(size > 4 ? 0 : number & UINT64_MAX >> 8 * at);
-        const fty_status status = fty_read_uint(eight, at, size, &low);
-        STATE(fty_uint(eight, at, size) == least
+        const fty_view its = fty_from(eight, at);
+        const fty_status status = fty_read_uint(its, &low);
+        STATE(fty_uint(its) == least
               && (size > 4 ? status == FTY_OUT_OF_BOUNDS : status == FTY_OK && low == least));
     }
     /* A record, of which each field ends where an array does: a Tag, a uint24, the date above, a
@@ -169,17 +174,21 @@ static void values_of_opentype(void) {
     int16_t of_16 = KEPT;
     int32_t of_32 = KEPT;
     int64_t of_64 = KEPT;
-    STATE(fty_round_i16(-24576, 14, &of_16) == FTY_OK && of_16 == -16384); /* -1.5 to -1 */
-    STATE(fty_round_i32(98304, 16, &of_32) == FTY_OK && of_32 == 131072);  /* 1.5 to 2 */
-    STATE(fty_round_i64(-98304, 16, &of_64) == FTY_OK && of_64 == -65536);
-    STATE(fty_round_i32(0, 5, &of_32) == FTY_BAD_FRACTION && of_32 == 131072);
+    const fty_fraction most = FTY_F2DOT30, fewest = FTY_F26DOT6, over = FTY_FRACTION(31);
+    STATE(fty_checked_round_i16(-24576, FTY_F2DOT14, &of_16) == FTY_OK && of_16 == -16384);
+    STATE(fty_checked_round_i32(98304, FTY_FIXED, &of_32) == FTY_OK && of_32 == 131072);
+    STATE(fty_checked_round_i64(-98304, FTY_F48DOT16, &of_64) == FTY_OK && of_64 == -65536);
+    STATE(fty_checked_round_i32(0, FTY_FRACTION(5), &of_32) == FTY_BAD_FRACTION
+          && of_32 == 131072);
     /* A half, of the most and the fewest fraction bits. */
-    STATE(fty_round_i32(1 << 29, 30, &of_32) == FTY_OK && of_32 == 1 << 30);
-    STATE(fty_round_i32(32, 6, &of_32) == FTY_OK && of_32 == 64);
-    STATE(fty_round_i64(1 << 29, 30, &of_64) == FTY_OK && of_64 == 1 << 30);
-    STATE(fty_round_i64(0, 31, &of_64) == FTY_BAD_FRACTION && of_64 == 1 << 30);
-    STATE(fty_round_i16(INT16_MAX, 14, &of_16) == FTY_OUT_OF_RANGE && of_16 == -16384);
-    STATE(fty_round_i64(INT64_MAX, 16, &of_64) == FTY_OUT_OF_RANGE && of_64 == 1 << 30);
+    STATE(fty_checked_round_i32(1 << 29, most, &of_32) == FTY_OK && of_32 == 1 << 30);
+    STATE(fty_checked_round_i32(32, fewest, &of_32) == FTY_OK && of_32 == 64);
+    STATE(fty_checked_round_i64(1 << 29, most, &of_64) == FTY_OK && of_64 == 1 << 30);
+    STATE(fty_checked_round_i64(0, over, &of_64) == FTY_BAD_FRACTION && of_64 == 1 << 30);
+    STATE(fty_checked_round_i16(INT16_MAX, FTY_F2DOT14, &of_16) == FTY_OUT_OF_RANGE
+          && of_16 == -16384);
+    STATE(fty_checked_round_i64(INT64_MAX, FTY_FIXED, &of_64) == FTY_OUT_OF_RANGE
+          && of_64 == 1 << 30);
     STATE(fty_fixed_ceil(-65536) == -65536 && fty_fixed_ceil(INT32_MAX) == INT32_MIN);
     STATE(fty_fixed_round(INT32_MAX) == INT32_MIN && fty_fixed_round_away(65535) == 65536);
     STATE(fty_f26dot6_ceil(-64) == -64 && fty_f26dot6_ceil(INT32_MAX) == INT32_MIN
@@ -196,13 +205,15 @@ static void values_of_opentype(void) {
     STATE(fty_f2dot30_to_fixed(0x26666666) == 39322 && fty_f2dot30_to_fixed(INT32_MAX) == 131072);
     STATE(fty_f2dot30_to_f2dot14(0x26666666) == 9830
           && fty_f2dot30_to_f2dot14(2147475456) == -32768);
-    /* A part of no bytes is there, and an absent one is not written. */
-    const fty_view none = fty_part(subtable, sizeof bytes, 0);
+    /* A part of no bytes is there. It is written to no bytes, and so is an absent one; but there
+     * is nothing past the end. */
+    const fty_view none = fty_first(fty_from(subtable, sizeof bytes), 0);
     const fty_span room = {written, 15};
     STATE(none.bytes == bytes + sizeof bytes
           && fty_write_bytes(fty_span_from(room, 15), none) == FTY_OK
           && fty_write_bytes(fty_span_from(room, 16), none) == FTY_OUT_OF_BOUNDS
-          && fty_write_bytes(room, fty_absent()) == FTY_OUT_OF_BOUNDS);
+          && fty_write_bytes(fty_span_from(room, 15), fty_absent()) == FTY_OK
+          && fty_write_bytes(none_left, fty_absent()) == FTY_OUT_OF_BOUNDS);
     /* Bytes of the array itself, in both directions. */
     const fty_view tag = {written, 4}, date = {written + 11, 4};
     STATE(fty_write_bytes(fty_span_from(room, 2), tag) == FTY_OK

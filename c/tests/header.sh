@@ -3,7 +3,9 @@
 # The names that it declares, the libraries export and the table calls; and those that it has in C.
 # Two are both: table.c declares these exports itself.
 text=$(c++ -std=c++11 -x c++ -E -P include/font_types.h | tr '\n' ' ')
-functions=$(grep -oE '\bfty_[a-z0-9_]+\([^()]*\) noexcept *[;{]' <<<"$text" | grep -v '^fty_api_')
+typed=$(grep -oE '[a-z0-9_]+ fty_[a-z0-9_]+\([^()]*\) noexcept *[;{]' <<<"$text" |
+    grep -v ' fty_api_.*{$')
+functions=$(sed 's/^[^ ]* //' <<<"$typed")
 names() { grep -o '\bfty_[a-z0-9_]*' | sort -u; }
 # Whether two lists have the same names. Prints what only the first (<) or the second (>) has.
 same() {
@@ -16,7 +18,7 @@ same() {
 declared=$(grep ';$' <<<"$functions" | sed 's/(.*//' | names)
 inline=$(grep '{$' <<<"$functions" | sed 's/(.*//' | names)
 both=$'fty_f26dot6_mul\nfty_fixed_mul'
-[[ $(comm -12 <(echo "$both") <(echo "$inline")) == "$both" ]]
+is "$(comm -12 <(echo "$both") <(echo "$inline"))" "$both"
 exports=$(sort -u <<<"$declared"$'\n'"$both")
 declares='in font_types.h'
 archived=$(nm --defined-only "$archive" 2>/dev/null | grep ' T ' | names)
@@ -31,21 +33,22 @@ listed() {
     eval "printf '%s\n' $(sed -n "/^ \* $1/,/^ \* $2/p" include/font_types.h |
         grep -o 'fty_[a-z0-9_{},]*' | tr '\n' ' ')" | sort -u
 }
-calling=$(printf '%s\n' fty_{fixed,f2dot14,f26dot6}_{parse,format,format_padded} | sort)
+calling=$(printf '%s\n' fty_{fixed,f2dot14,f26dot6}_{parse,format,format_padded} \
+    fty_{format,format_padded,tag_to_text,delta_sum,delta_set_sum} | sort)
+public=$(grep -v '^fty_api_' <<<"$declared")
 head='at the head of font_types.h'
 same "$head, \"In C\"" "$(listed 'In C, in' 'Calls of')" \
     "$declares" "$(comm -23 <(echo "$inline") <(echo "$calling"))"
 same "$head, \"Calls\"" "$(listed 'Calls of' 'Each function')" \
-    "$declares" "$(sort <<<"$declared"$'\n'"$calling")"
+    "$declares" "$(sort <<<"$public"$'\n'"$calling")"
 # Their types are those of the Rust that is compiled. An enum is returned as 32 bits.
-in_c=$(grep -oE '[a-z0-9_]+ fty_[a-z0-9_]+\([^()]*\) noexcept *[;{]' <<<"$text" |
-    grep -E ";\$|($(paste -sd '|' <<<"$both"))\(" | sed -E '
+in_c=$(grep -E ";\$|($(paste -sd '|' <<<"$both"))\(" <<<"$typed" | sed -E '
     s/ noexcept *[;{]//; s/\(void\)/()/; s/ *\*[a-z_]+/*/g; s/ [a-z_]+([,)])/\1/g
     s/\bchar\b/uint8_t/g; s/\bfty_status\b/uint32_t/; s/([(,]) +/\1/g' | sort)
 in_rust=$(cat src/generated/font_c/*.rs | tr -d '\n' | grep -oE '"C" fn fty_[^{]*' | sed -E '
     s/"C" fn (.*)\) -> (\w+) *$/\2 \1)/; s/"C" fn /void /; s/[a-z_]+: //g; s/,? *\) *$/)/
     s/\*const (\w+)/const \1*/g; s/[*&]mut (\w+)/\1*/g; s/&(\w+)/const \1*/g
-    s/Font(Matrix|Pad|Point)/fty_\L\1/g; s/\bu(8|16|32|64)\b/uint\1_t/g
+    s/Font(Fraction|Matrix|Pad|Point)/fty_\L\1/g; s/\bu(8|16|32|64)\b/uint\1_t/g
     s/\bi(8|16|32|64)\b/int\1_t/g; s/usize/size_t/g; s/([(,]) +/\1/g' | sort)
 diff <(echo "$in_c") <(echo "$in_rust")
 
@@ -59,47 +62,60 @@ same 'constexpr in font_types.h' "$constants" \
 
 # Each function is noexcept, and each but fty_matrix_images and fty_poke_* warns of a result that
 # is ignored.
-[[ $(grep -o '\bfty_[a-z0-9_]*(' <<<"$text" | grep -v '^fty_api_' | names) == \
-    $(sort -u <<<"$declared"$'\n'"$inline") ]]
-calls=$(sed -E 's/ noexcept.*//; s/\(void\)/()/; s/fty_view view/v/; s/fty_span [a-z]+/s/g; s/fty_status status/FTY_OK/
-    s/fty_matrix [a-z]/m/g; s/fty_point [a-z]/p/g; s/(const )?[a-z0-9_]+ \*+[a-z_]+/0/g
-    s/[a-z0-9_]+ [a-z_]+([,)])/9\1/g' <<<"$functions")
-{
+same 'called in font_types.h' "$(grep -o '\bfty_[a-z0-9_]*(' <<<"$text" | grep -v '^fty_api_' | names)" \
+    "$declares" "$(sort -u <<<"$public"$'\n'"$inline")"
+# A call of each, by a function of the same parameters.
+calls() {
     echo '#include "font_types.h"'
-    echo 'void f(fty_matrix m, fty_point p, fty_view v, fty_span s) {'
-    sed 's/$/;/' <<<"$calls"
-    echo '}'
-} >"$work/calls.c"
+    sed -E 's/^.* (fty_.*)\((.*)\).*/\1 \2/; s/ void$//' <<<"$typed" |
+        awk -v form="$1" '{ name = $1; sub(/[^ ]* ?/, ""); given = $0
+            gsub(/[^,]*[ *]/, "", given); printf form "\n", NR, $0, name "(" given ")" }'
+}
+calls 'void f%d(%s) { %s; }' >"$work/calls.c"
 fails cc -Iinclude -Werror -c -o "$work/calls.o" "$work/calls.c"
-[[ $(grep -c 'unused-result' "$work/log") == $(($(wc -l <<<"$calls") - 5)) ]]
-sed -E 's/^(fty_.*);$/static_assert(noexcept(\1), "");/' "$work/calls.c" >"$work/calls.cpp"
+is "$(grep -c 'unused-result' "$work/log")" "$(($(wc -l <<<"$typed") - 5))"
+calls 'void f%d(%s) { static_assert(noexcept(%s), ""); }' >"$work/calls.cpp"
 c++ -std=c++11 -w -Iinclude -fsyntax-only "$work/calls.cpp"
 
-# No call that writes compiles with its arguments in another order, or with a view.
-compiles() {
-    printf '%s\n' '#include "font_types.h"' \
-        'fty_status f(fty_span s, fty_span t, fty_view v, size_t at, uint16_t x) {' \
-        "(void)s, (void)t, (void)v, (void)at, (void)x; return $1; }" >"$work/order.c"
-    "${@:2}" -Werror -Iinclude -fsyntax-only "$work/order.c"
+# No two arguments of a call can be exchanged, if their types differ: with -Werror alone, compilers
+# refuse each call with two of them exchanged, and no call as it is. Of one type are two integers
+# only where they are of one kind, and where the result is the same in either order.
+orders() {
+    echo '#include "font_types.h"'
+    grep -v ' fty_api_' <<<"$typed" | sed -E 's/^([^ ]*) (.*)\((.*)\).*/\1,\2,\3/' | awk -F' *, *' '
+        function call(i, j, given, k) {
+            for (k = 3; k <= NF; k++)
+                given = given (k > 3 ? ", " : "") name[k == i ? j : k == j ? i : k]
+            printf "%s f%d(%s) { return %s(%s); }\n", $1, ++n, all, $2, given
+        }
+        {
+            all = ""
+            for (i = 3; i <= NF; i++) {
+                type[i] = name[i] = $i
+                sub(/[a-z_]+$/, "", type[i])
+                sub(/.*[ *]/, "", name[i])
+                all = all (i > 3 ? ", " : "") $i
+            }
+            for (i = 3; i < NF; i++)
+                for (j = i + 1; j <= NF; j++)
+                    if (type[i] != type[j])
+                        wrong ? call(i, j) : call()
+                    else if (integers && type[i] ~ /^(u?int[0-9]*_t|size_t|int) $/)
+                        print $2
+        }' "$@"
 }
-compiles 'fty_write_u16(fty_span_from(s, at), x)' cc
-while read -r call; do
-    fails compiles "$call" cc
-    fails compiles "$call" c++ -x c++
-done <<'CALLS'
-fty_put_u16(x, &s)
-fty_put_u16(s, x)
-fty_put_u16(&v, x)
-fty_write_u16(x, s)
-fty_write_u16(s, at, x)
-fty_write_u16(v, x)
-fty_write_u16(fty_span_from(at, s), x)
-fty_write_uint(x, s)
-fty_write_bytes(v, s)
-fty_write_offset16(at, s, t)
-fty_write_offset16(s, t, at)
-fty_put_zeros_to_4(s, &t)
-CALLS
+same 'takes two integers' "$(orders integers=1 - | names)" 'of one kind' "$(printf '%s\n' fty_items \
+    fty_fixed_{add,sub,mul,div,mul_div} fty_f26dot6_{mul,div} fty_mul_div_i64 | sort)"
+orders - >"$work/right.c"
+orders wrong=1 - >"$work/wrong.c"
+[[ -n ${BUILT-} ]] || for compiler in 'gcc -std=c99' 'gcc -std=c11' 'clang -ferror-limit=0' \
+    'clang-22 -ferror-limit=0' 'g++ -x c++' 'clang++ -ferror-limit=0 -x c++'; do
+    command -v "${compiler%% *}" >/dev/null || { echo "left out: calls by $compiler"; continue; }
+    $compiler -Werror -Iinclude -fsyntax-only "$work/right.c"
+    fails $compiler -Werror -Iinclude -fsyntax-only "$work/wrong.c"
+    refused=$(grep -oE 'wrong\.c:[0-9]+:[0-9]+: error' "$work/log" | cut -d : -f 2 | sort -nu)
+    same "refused by $compiler" "$refused" 'in wrong.c' "$(seq 2 "$(wc -l <"$work/wrong.c")")"
+done
 
 # A guard; FTY_TAG of any expressions; and no other macro that is left.
 c++ -std=c++11 -Iinclude -x c++ -fsyntax-only - <<'CPP'
@@ -108,9 +124,10 @@ c++ -std=c++11 -Iinclude -x c++ -fsyntax-only - <<'CPP'
 static_assert(FTY_TAG(true ? 1 : 2, 3, 4, 5) == 0x01030405, "");
 static_assert(FTY_TAG(-1, -2, -3, -4) == 0xFFFEFDFC && FTY_TAG(1, 2, 3, 4) / 2 == 0x00810182, "");
 CPP
-macros=$(cc -E -dM include/font_types.h | grep -oE '^#define (FONT|FTY)_[A-Z_]*' | sort)
-[[ $(sed 's/#define //' <<<"$macros" | tr '\n' ' ') == \
-    'FONT_TYPES_H FTY_PAD_INIT FTY_TAG FTY_VERSION FTY_VERSION_NUMBER ' ]]
+macros=$(cc -E -dM include/font_types.h | grep -oE '^#define (FONT|FTY)_[A-Z_0-9]*' | sort)
+of_formats=$(printf 'FTY_%s\n' FRACTION FIXED F{2DOT14,2DOT30,26DOT6,48DOT16,4DOT12,6DOT10})
+same 'a macro' "$(sed 's/#define //' <<<"$macros")" 'expected' \
+    "$(sort <<<"$of_formats"$'\nFONT_TYPES_H\nFTY_PAD_INIT\nFTY_TAG\nFTY_VERSION\nFTY_VERSION_NUMBER')"
 
 # What each returns and writes for every argument, and that nothing is undefined.
 solver=

@@ -7,37 +7,38 @@ ln -s real "$work/link"
 (umask 077 && make -s install DESTDIR="$work/stage" PREFIX="$work/link" \
     LIBDIR="$work/link/lib/x" INCLUDEDIR="$work/inc" CARGO=false)
 found=$(cd "$work/stage$work" && find . \( -type f -o -type l \) -printf '%P %m %l\n' | sort)
-[[ $found == "inc/font_types.h 644 
+is "$found" "inc/font_types.h 644 
 link/lib/x/cmake/font_types/font_types-config-version.cmake 644 
 link/lib/x/cmake/font_types/font_types-config.cmake 644 
 link/lib/x/libfont_types.a 644 
 link/lib/x/libfont_types.so 777 libfont_types.so.$version
 link/lib/x/libfont_types.so.$version 777 libfont_types.so.$full
 link/lib/x/libfont_types.so.$full 644 
-link/lib/x/pkgconfig/font_types.pc 644 " ]]
+link/lib/x/pkgconfig/font_types.pc 644 "
 staged=$work/stage$work/link/lib/x/pkgconfig
-[[ $(sed 3q "$staged/font_types.pc") == \
-    "prefix=$work/link"$'\nlibdir=${prefix}/lib/x\n'"includedir=$work/inc" ]]
-[[ $(PKG_CONFIG_PATH=$staged pkg-config --cflags --libs font_types) == \
-    "-I$work/inc -L$work/link/lib/x -lfont_types"* ]]
-[[ $(sed 3q "$PKG_CONFIG_PATH/font_types.pc") == \
-    "prefix=$root"$'\nlibdir=${prefix}/lib\nincludedir=${prefix}/include' ]]
+is "$(sed 3q "$staged/font_types.pc")" \
+    "prefix=$work/link"$'\nlibdir=${prefix}/lib/x\n'"includedir=$work/inc"
+has "$(PKG_CONFIG_PATH=$staged pkg-config --cflags --libs font_types)" \
+    "-I$work/inc -L$work/link/lib/x -lfont_types"
+is "$(sed 3q "$PKG_CONFIG_PATH/font_types.pc")" \
+    "prefix=$root"$'\nlibdir=${prefix}/lib\nincludedir=${prefix}/include'
 
 # Folders, of the environment, with letters that sed replaces and pkg-config and cmake quote; and
 # another version.
 odd="$work/a&b|c d\\e"
 PREFIX="$odd" INCLUDEDIR="$odd/inc" make -s install
-[[ $(sed 2q "$odd/lib/pkgconfig/font_types.pc") == "prefix=$odd"$'\nlibdir=${prefix}/lib' ]]
+is "$(sed 2q "$odd/lib/pkgconfig/font_types.pc")" "prefix=$odd"$'\nlibdir=${prefix}/lib'
 eval "flags=($(PKG_CONFIG_PATH="$odd/lib/pkgconfig" pkg-config --cflags --libs font_types))"
-[[ ${flags[0]} == "-I$odd/inc" && ${flags[1]} == "-L$odd/lib" ]]
-[[ $(<"$odd/lib/cmake/font_types/font_types-config.cmake") == \
-    *" [[$odd/lib/libfont_types.so]]"*" [[$odd/inc]])" ]]
+is "${flags[0]} ${flags[1]}" "-I$odd/inc -L$odd/lib"
+has "$(<"$odd/lib/cmake/font_types/font_types-config.cmake")" " [[$odd/lib/libfont_types.so]]"
+has "$(<"$odd/lib/cmake/font_types/font_types-config.cmake")" " [[$odd/inc]])"
 sed -i.kept 's/^version = .*/version = "9.8.7"/' Cargo.toml
 LIBDIR='/a&b|c' make -s install DESTDIR="$work/next" PREFIX=/usr
 mv Cargo.toml.kept Cargo.toml
-[[ -e "$work/next/a&b|c/libfont_types.so.9.8.7" && -L "$work/next/a&b|c/libfont_types.so.9.8" ]]
-[[ $(grep 'libdir=\|Version' "$work/next/a&b|c/pkgconfig/font_types.pc") == \
-    $'libdir=/a&b|c\nVersion: 9.8.7' ]]
+is "$(readlink "$work/next/a&b|c/libfont_types.so.9.8")" libfont_types.so.9.8.7
+ls "$work/next/a&b|c/libfont_types.so.9.8.7" >/dev/null
+is "$(grep 'libdir=\|Version' "$work/next/a&b|c/pkgconfig/font_types.pc")" \
+    $'libdir=/a&b|c\nVersion: 9.8.7'
 grep 'N 9.8.7)$' "$work/next/a&b|c/cmake/font_types/font_types-config-version.cmake" >/dev/null
 
 # The tools that variables name, and the folders that are removed.
@@ -45,13 +46,13 @@ commands=$(CARGO=a-cargo CARGOFLAGS=--a-flag CC=a-cc LDFLAGS=--b-flag AR=an-ar B
     make -n)
 for part in 'a-cargo build --release --target-dir "a-folder" --a-flag' 'a-cc -shared' \
     '--b-flag "a-folder/libraries"' 'an-ar x' 'an-ar t' 'an-ar rcs'; do
-    [[ $commands == *"$part"* ]]
+    has "$commands" "$part"
 done
-[[ $(make -n clean) == 'rm -rf "target" shared static' ]]
-[[ $(make -n check CC=a-cc CXX=a-c++ CARGO=a-cargo) == \
-    'BUILT="$(realpath -- "target")" CARGO="a-cargo" CC="a-cc" CXX="a-c++" ./check' ]]
+is "$(make -n clean)" 'rm -rf "target" shared static'
+is "$(make -n check CC=a-cc CXX=a-c++ CARGO=a-cargo)" \
+    'BUILT="$(realpath -- "target")" CARGO="a-cargo" CC="a-cc" CXX="a-c++" ./check'
 fails make check BUILD="$work/none"
-[[ $(<"$work/log") == *'run make first'* ]]
+has "$(<"$work/log")" 'run make first'
 
 # Uninstall leaves no file but those of others. Two jobs do not install what is not built yet.
 mkdir -p "$work/dest/usr/include" "$work/dest/usr/lib/pkgconfig"
@@ -59,13 +60,13 @@ touch "$work"/dest/usr/{include/other.h,lib/libother.a,lib/pkgconfig/other.pc}
 "${empty[@]}" make -s -j2 all install CARGOFLAGS=--quiet DESTDIR="$work/dest" PREFIX=/usr
 make -s uninstall DESTDIR="$work/dest" PREFIX=/usr
 found=$(find "$work/dest" ! -type d -printf '%f\n' | sort | tr '\n' ' ')
-[[ $found == 'libother.a other.h other.pc ' ]]
+is "$found" 'libother.a other.h other.pc '
 
 # Errors that write nothing: a folder that is empty, not absolute, begins with `~`, or is not one
 # that the shell and pkg-config read as it is; and an install of nothing.
 refused() {
     fails make install "$1=$2" DESTDIR="$work/relative"
-    [[ $(<"$work/log") == *"$1 $3"* ]]
+    has "$(<"$work/log")" "$1 $3"
 }
 for folder in PREFIX LIBDIR INCLUDEDIR; do
     for letter in '"' "'" '`' '$$' '\\' '#' ':'; do
@@ -79,21 +80,21 @@ for path in '~/x' '~' '~root/x'; do
     refused PREFIX "$path" "begins with ~, which the shell has not replaced: $path. "
     refused BUILD "$path" "begins with ~, which the shell has not replaced: $path. "
     fails make install "DESTDIR=$path"
-    [[ $(<"$work/log") == *"DESTDIR begins with ~, which the shell has not replaced: $path. "* ]]
+    has "$(<"$work/log")" "DESTDIR begins with ~, which the shell has not replaced: $path. "
 done
 fails env LIBDIR=lib make install DESTDIR="$work/relative"
-[[ $(<"$work/log") == *'LIBDIR is not absolute: lib. '* ]]
+has "$(<"$work/log")" 'LIBDIR is not absolute: lib. '
 refused PREFIX '' 'is empty. '
 refused BUILD '' 'is empty. '
 fails make install BUILD="$work/none" DESTDIR="$work/relative"
-[[ ! -e $work/relative ]]
+fails ls "$work/relative"
 
 # The archive of another target, here with debug assertions, is the one that is packed, whatever
 # cargo's own target folder is, and after it that of this one again. A null pointer aborts with
 # debug assertions, and faults without: the library has none.
 cat >"$work/null.c" <<'C'
 #include "font_types.h"
-int main(void) { return (int)fty_parse_i32(NULL, 1, 16, NULL); }
+int main(void) { return (int)fty_fixed_parse(NULL, 1, NULL); }
 C
 status_of_null() {
     cc -Iinclude "$work/null.c" "$1" -o "$work/null"
@@ -101,12 +102,13 @@ status_of_null() {
 }
 CARGO_BUILD_TARGET_DIR=$work/elsewhere CARGO_PROFILE_RELEASE_DEBUG_ASSERTIONS=true \
     make -s CARGOFLAGS="--quiet --target $(rustc -vV | sed -n 's/^host: //p')"
-[[ ! -e $work/elsewhere && ! -e target/release/libfont_types.a ]]
+fails ls "$work/elsewhere"
+fails ls target/release/libfont_types.a
 fails cmp -s target/libraries/libfont_types.a "$root/lib/libfont_types.a"
 cc -std=c99 $strict tests/table.c target/libraries/libfont_types.a -o "$work/table"
 run "$work/table"
-[[ $(status_of_null target/libraries/libfont_types.a) == 134 ]]
-[[ $(status_of_null "$root/lib/libfont_types.a") == 139 ]]
+is "$(status_of_null target/libraries/libfont_types.a)" 134
+is "$(status_of_null "$root/lib/libfont_types.a")" 139
 "${empty[@]}" make -s CARGOFLAGS=--quiet
 cmp -s target/libraries/libfont_types.a "$root/lib/libfont_types.a"
 cmp -s target/libraries/libfont_types.so "$root/lib/libfont_types.so"
@@ -125,4 +127,4 @@ cc -shared -fPIC -Iinclude -DPLUG_IN tests/versions.c "$root/lib/libfont_types.a
     -Wl,--exclude-libs,ALL -o "$work/archive.so"
 cc -Iinclude tests/versions.c "$work/libfont_types.so.9.0" "-Wl,-rpath,$work" -ldl -o "$work/host"
 ours=$(printf '00%02x00' "${version#*.}")
-[[ $("$work/host" "$work/shared.so" "$work/archive.so") == "090000 $ours $ours" ]]
+is "$("$work/host" "$work/shared.so" "$work/archive.so")" "090000 $ours $ours"

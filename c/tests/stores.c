@@ -32,16 +32,16 @@ static void parse_and_format(void) {
                                         "99999999999999999999.5"};
     const char *const text = texts[any() % 8];
     const size_t length = strlen(text);
-    const uint32_t f = (uint32_t)(any() % 33);
+    const fty_fraction f = FTY_FRACTION((uint32_t)(any() % 33));
     const int64_t bits = (int64_t)any() >> any() % 64;
     const fty_pad pad = {any() % 50, (uint8_t)(any() % 140), (uint8_t)(any() % 4),
                          (uint8_t)(any() % 2), (uint8_t)(any() % 2)};
     results += fty_parse_i16(text, length, f, (int16_t *)place(2));
     results += fty_parse_i32(text, length, f, (int32_t *)place(4));
     results += fty_parse_i64(text, length, f, (int64_t *)place(8));
-    results += fty_format(bits, f, (char *)place(40), any() % 40, (size_t *)place(8));
-    results += fty_format_padded(bits, f, &pad, (char *)place(70), any() % 70,
-                                 (size_t *)place(8));
+    const fty_buffer out = {(char *)place(40), any() % 40}, padded = {(char *)place(70), any() % 70};
+    results += fty_format(bits, f, out, (size_t *)place(8));
+    results += fty_format_padded(bits, f, &pad, padded, (size_t *)place(8));
 }
 
 static void sum(void) {
@@ -53,14 +53,10 @@ static void sum(void) {
         set[i] = (uint8_t)any();
     const size_t count = any() % MOST, length = any() % 4;
     const uint16_t words = (uint16_t)(any() % (count + 1) + any() % 2 * 0x8000);
-    const size_t set_length = fty_delta_set_length(words, (uint16_t)count);
-    results += fty_delta_sum(scalars, count, deltas, length == 0 ? 3 : count,
-                             (int64_t *)place(8));
-    results += fty_delta_set_sum(scalars, count, set, length == 0 ? 1 : set_length, words,
-                                 (int64_t *)place(8));
-    const int64_t delta = (int64_t)any() >> any() % 64;
-    results += fty_checked_add_delta_i16((int16_t)any(), delta, (int16_t *)place(2));
-    results += fty_checked_add_delta_u16((uint16_t)any(), delta, (uint16_t *)place(2));
+    const fty_numbers of = {scalars, count}, moved = {deltas, length == 0 ? 3 : count};
+    const fty_view bytes = {set, length == 0 ? 1 : fty_delta_set_length(of, words)};
+    results += fty_delta_sum(of, moved, (int64_t *)place(8));
+    results += fty_delta_set_sum(of, bytes, words, (int64_t *)place(8));
 }
 
 static void make_tags(void) {
@@ -69,9 +65,10 @@ static void make_tags(void) {
         text[i] = (char)(0x1E + any() % 0x60);
     uint32_t tag = (uint32_t)any();
     tag = any() % 2 == 0 ? tag : (tag & 0x3F3F3F3F) | 0x20202020;
-    results += fty_tag_new(text, any() % 6, (uint32_t *)place(4));
+    results += fty_tag_new_checked(text, any() % 6, (uint32_t *)place(4));
     results += fty_tag_validate(tag, (uint32_t *)place(4));
-    results += fty_tag_to_text(tag, (char *)place(25), any() % 26, (size_t *)place(8));
+    const fty_buffer out = {(char *)place(25), any() % 26};
+    results += fty_tag_to_text(tag, out, (size_t *)place(8));
 }
 
 int main(int count, char **arguments) {

@@ -69,22 +69,27 @@ typedef char values[FTY_OK == 0 && FTY_NOT_DECIMAL == 1 && FTY_OUT_OF_RANGE == 2
 /* ---- decimals ---- */
 
 RESULT(parsed_16, int16_t, (const char *text, size_t length, uint32_t f),
-       fty_parse_i16(text, length, f, &place))
+       fty_parse_i16(text, length, FTY_FRACTION(f), &place))
 RESULT(parsed_32, int32_t, (const char *text, size_t length, uint32_t f),
-       fty_parse_i32(text, length, f, &place))
+       fty_parse_i32(text, length, FTY_FRACTION(f), &place))
 RESULT(parsed_64, int64_t, (const char *text, size_t length, uint32_t f),
-       fty_parse_i64(text, length, f, &place))
+       fty_parse_i64(text, length, FTY_FRACTION(f), &place))
 
 typedef struct result parser(const char *, size_t, uint32_t);
 
 /* What is written is at most `room` bytes of this, after which none is changed. */
 static char out[BUFFER];
+static fty_buffer buffer_of(size_t room) {
+    const fty_buffer buffer = {out, room};
+    return buffer;
+}
 
 RESULT(formatted, size_t, (int64_t bits, uint32_t f, size_t room),
-       fty_format(bits, f, out, room, &place))
+       fty_format(bits, FTY_FRACTION(f), buffer_of(room), &place))
 RESULT(padded, size_t, (int64_t bits, uint32_t f, const fty_pad *pad, size_t room),
-       fty_format_padded(bits, f, pad, out, room, &place))
-RESULT(tag_text, size_t, (uint32_t tag, size_t room), fty_tag_to_text(tag, out, room, &place))
+       fty_format_padded(bits, FTY_FRACTION(f), pad, buffer_of(room), &place))
+RESULT(tag_text, size_t, (uint32_t tag, size_t room),
+       fty_tag_to_text(tag, buffer_of(room), &place))
 
 /* Checks a text that was written to `out`, and the error with too little room. */
 static void check_written(const char *table, size_t row, struct result found, const char *text) {
@@ -108,13 +113,13 @@ static const struct {
     int64_t bits;
     int is_shortest;
 } decimals[] = {
-    {parsed_16, FTY_F2DOT14_BITS, "1.5", FTY_OK, 24576, 1},
-    {parsed_16, FTY_F4DOT12_BITS, "1.5", FTY_OK, 6144, 1},
-    {parsed_16, FTY_F6DOT10_BITS, "1.5", FTY_OK, 1536, 1},
-    {parsed_32, FTY_FIXED_BITS, "1.5", FTY_OK, 98304, 1},
-    {parsed_32, FTY_F26DOT6_BITS, "1.5", FTY_OK, 96, 1},
-    {parsed_32, FTY_F2DOT30_BITS, "1.5", FTY_OK, 1610612736, 1},
-    {parsed_64, FTY_F48DOT16_BITS, "1.5", FTY_OK, 98304, 1},
+    {parsed_16, 14, "1.5", FTY_OK, 24576, 1},
+    {parsed_16, 12, "1.5", FTY_OK, 6144, 1},
+    {parsed_16, 10, "1.5", FTY_OK, 1536, 1},
+    {parsed_32, 16, "1.5", FTY_OK, 98304, 1},
+    {parsed_32, 6, "1.5", FTY_OK, 96, 1},
+    {parsed_32, 30, "1.5", FTY_OK, 1610612736, 1},
+    {parsed_64, 16, "1.5", FTY_OK, 98304, 1},
     {parsed_16, 14, "-2", FTY_OK, -32768, 1},
     {parsed_32, 16, "32767.99998", FTY_OK, INT32_MAX, 1},
     {parsed_64, 16, "-140737488355327.99998", FTY_OK, INT64_C(-9223372036854775807), 1},
@@ -165,10 +170,10 @@ static const struct {
         size_t length = KEPT;                                                                  \
         check(#FORMAT, 0, fty_##FORMAT##_parse("1.5", 3, &bits), FTY_OK);                      \
         check(#FORMAT, 1, bits, BITS);                                                         \
-        check(#FORMAT, 2, fty_##FORMAT##_format(BITS, out, BUFFER, &length), FTY_OK);          \
+        check(#FORMAT, 2, fty_##FORMAT##_format(BITS, buffer_of(BUFFER), &length), FTY_OK);    \
         check(#FORMAT, 3, length == 3 && memcmp(out, "1.5", length) == 0, 1);                  \
-        check(#FORMAT, 4, fty_##FORMAT##_format_padded(BITS, &named, out, BUFFER, &length),    \
-              FTY_OK);                                                                         \
+        check(#FORMAT, 4,                                                                      \
+              fty_##FORMAT##_format_padded(BITS, &named, buffer_of(BUFFER), &length), FTY_OK); \
         check(#FORMAT, 5, length == 6 && memcmp(out, "+1.5**", length) == 0, 1);               \
         memset(out, KEPT, sizeof out);                                                         \
     } while (0)
@@ -206,6 +211,10 @@ static void check_decimals(void) {
     check_written("named", 2, padded(-98304, 16, &named, BUFFER), "-001.5");
     named.zeros = 0, named.align = FTY_LEFT, named.fill = '*';
     check_written("named", 3, padded(98304, 16, &named, BUFFER), "+1.5**");
+    const fty_fraction fractions[] = {FTY_F2DOT14, FTY_F4DOT12, FTY_F6DOT10, FTY_FIXED,
+                                      FTY_F26DOT6, FTY_F2DOT30, FTY_F48DOT16};
+    for (size_t i = 0; i < COUNT(fractions); i++)
+        check("fractions", i, fractions[i].bits, decimals[i].f);
     NAMED(fixed, int32_t, 98304);
     NAMED(f2dot14, int16_t, 24576);
     NAMED(f26dot6, int32_t, 96);
@@ -306,16 +315,40 @@ static void check_matrices(void) {
 
 /* ---- sums of deltas ---- */
 
+static fty_numbers numbers_of(const int32_t *first, size_t count) {
+    const fty_numbers numbers = {first, count};
+    return numbers;
+}
+
+static fty_view view_of(const uint8_t *bytes, size_t length) {
+    const fty_view view = {bytes, length};
+    return view;
+}
+
 RESULT(sum_of_deltas, int64_t,
        (const int32_t *scalars, size_t scalar_count, const int32_t *deltas, size_t delta_count),
-       fty_delta_sum(scalars, scalar_count, deltas, delta_count, &place))
+       fty_delta_sum(numbers_of(scalars, scalar_count), numbers_of(deltas, delta_count), &place))
 RESULT(sum_of_set, int64_t,
        (const int32_t *scalars, size_t count, const uint8_t *set, size_t length, int word_count),
-       fty_delta_set_sum(scalars, count, set, length, (uint16_t)word_count, &place))
-RESULT(applied_i16, int16_t, (int16_t base, int64_t delta),
-       fty_checked_add_delta_i16(base, delta, &place))
-RESULT(applied_u16, uint16_t, (uint16_t base, int64_t delta),
-       fty_checked_add_delta_u16(base, delta, &place))
+       fty_delta_set_sum(numbers_of(scalars, count), view_of(set, length), (uint16_t)word_count,
+                         &place))
+
+/* Font units that are moved in place; KEPT if they stay because the call fails. */
+static struct result moved_i16(int16_t base, int64_t delta) {
+    struct result result = {FTY_OK, 0};
+    int16_t units = base;
+    result.status = fty_checked_add_delta_i16(delta, &units);
+    result.value = result.status != FTY_OK && units == base ? (int64_t)KEPT : units;
+    return result;
+}
+
+static struct result moved_u16(uint16_t base, int64_t delta) {
+    struct result result = {FTY_OK, 0};
+    uint16_t units = base;
+    result.status = fty_checked_add_delta_u16(delta, &units);
+    result.value = result.status != FTY_OK && units == base ? (int64_t)KEPT : units;
+    return result;
+}
 
 /* Delta sets: the number of words, the bytes, and the scalars. */
 static const struct {
@@ -364,14 +397,14 @@ static void check_sums(void) {
     check_result("many scalars", 0, sum_of_set(many, most, set, most, 0), FTY_OK, 0);
     check_result("many scalars", 1, sum_of_set(many, most + 1, set, most, 1), FTY_TOO_MANY, 0);
     check_result("many deltas", 0, sum_of_deltas(many, most + 1, many, most + 1), FTY_OK, 0);
-    check_result("signed", 0, applied_i16(32767, 32767), FTY_OK, 32767);
-    check_result("signed", 1, applied_i16(32767, 32768), FTY_OUT_OF_RANGE, 0);
-    check_result("signed", 2, applied_i16(-32768, -32768), FTY_OK, -32768);
-    check_result("signed", 3, applied_i16(-32768, INT64_MIN), FTY_OUT_OF_RANGE, 0);
-    check_result("unsigned", 0, applied_u16(65535, 32767), FTY_OK, 65535);
-    check_result("unsigned", 1, applied_u16(65535, 32768), FTY_OUT_OF_RANGE, 0);
-    check_result("unsigned", 2, applied_u16(600, -6553600), FTY_OK, 500);
-    check_result("unsigned", 3, applied_u16(0, -32769), FTY_OUT_OF_RANGE, 0);
+    check_result("signed", 0, moved_i16(32767, 32767), FTY_OK, 32767);
+    check_result("signed", 1, moved_i16(32767, 32768), FTY_OUT_OF_RANGE, 0);
+    check_result("signed", 2, moved_i16(-32768, -32768), FTY_OK, -32768);
+    check_result("signed", 3, moved_i16(-32768, INT64_MIN), FTY_OUT_OF_RANGE, 0);
+    check_result("unsigned", 0, moved_u16(65535, 32767), FTY_OK, 65535);
+    check_result("unsigned", 1, moved_u16(65535, 32768), FTY_OUT_OF_RANGE, 0);
+    check_result("unsigned", 2, moved_u16(600, -6553600), FTY_OK, 500);
+    check_result("unsigned", 3, moved_u16(0, -32769), FTY_OUT_OF_RANGE, 0);
 }
 
 /* The length of a set is the only one that fty_delta_set_sum takes. */
@@ -381,7 +414,7 @@ static void check_lengths(void) {
     static const uint8_t set[0x10000] = {0};
     for (size_t i = 0; i < COUNT(numbers) * COUNT(numbers); i++) {
         const uint16_t count = numbers[i % COUNT(numbers)], words = numbers[i / COUNT(numbers)];
-        const size_t length = fty_delta_set_length(words, count);
+        const size_t length = fty_delta_set_length(numbers_of(scalars, count), words);
         if (length >= sizeof set || (words & 0x7FFF) > count)
             continue;
         check_result("lengths", i, sum_of_set(scalars, count, set, length, words), FTY_OK, 0);
@@ -392,7 +425,8 @@ static void check_lengths(void) {
 
 /* ---- tags ---- */
 
-RESULT(new_tag, uint32_t, (const char *text, size_t length), fty_tag_new(text, length, &place))
+RESULT(new_tag, uint32_t, (const char *text, size_t length),
+       fty_tag_new_checked(text, length, &place))
 RESULT(validated, uint32_t, (uint32_t tag), fty_tag_validate(tag, &place))
 
 static void check_tags(void) {
@@ -420,9 +454,11 @@ static void check_nulls(void) {
     check_result("null text", 16, parsed_16(NULL, 0, 14), FTY_NOT_DECIMAL, 0);
     check_result("null text", 32, parsed_32(NULL, 0, 16), FTY_NOT_DECIMAL, 0);
     check_result("null text", 64, parsed_64(NULL, 0, 16), FTY_NOT_DECIMAL, 0);
-    check("null out", 0, fty_format(0, 16, NULL, 0, &length), FTY_BUFFER_TOO_SMALL);
-    check("null out", 1, fty_format_padded(0, 16, &pad, NULL, 0, &length), FTY_BUFFER_TOO_SMALL);
-    check("null out", 2, fty_tag_to_text(0, NULL, 0, &length), FTY_BUFFER_TOO_SMALL);
+    const fty_buffer none = {NULL, 0};
+    check("null out", 0, fty_format(0, FTY_FIXED, none, &length), FTY_BUFFER_TOO_SMALL);
+    check("null out", 1, fty_format_padded(0, FTY_FIXED, &pad, none, &length),
+          FTY_BUFFER_TOO_SMALL);
+    check("null out", 2, fty_tag_to_text(0, none, &length), FTY_BUFFER_TOO_SMALL);
     check("null out", 3, (int64_t)length, KEPT);
     check_result("null deltas", 0, sum_of_deltas(NULL, 0, NULL, 0), FTY_OK, 0);
     check_result("null set", 0, sum_of_set(NULL, 0, NULL, 0, 0), FTY_OK, 0);

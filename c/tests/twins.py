@@ -14,7 +14,7 @@ EXPORT = re.compile(r'extern "C" fn (\w+)\(([^)]*)\)(?: -> (\w+))? \{')
 ROOM, SIZES = 64, {"u8": 1, "i32": 4, "FontPoint": 8}
 TYPES: dict[str, Any] = {f"i{bits}": getattr(ctypes, f"c_int{bits}") for bits in (16, 32, 64)}
 TYPES |= {f"u{bits}": getattr(ctypes, f"c_uint{bits}") for bits in (16, 32)}
-for name, count in (("FontMatrix", 6), ("FontPoint", 2)):
+for name, count in (("FontFraction", 1), ("FontMatrix", 6), ("FontPoint", 2)):
     fields = [(f"field_{n}", ctypes.c_int32) for n in range(count)]
     TYPES[name] = type(name, (ctypes.Structure,), {"_fields_": fields})
 
@@ -51,10 +51,12 @@ def arguments(parameters: list[tuple[str, str]]) -> list[Any]:
             found.append(memory(name, of))
         elif of == "usize":
             found.append(ctypes.c_size_t(random.randrange(min(most, 20) + 1)))
+        elif of == "FontFraction":
+            found.append(TYPES[of](random.randrange(36)))
         elif issubclass(TYPES[of], ctypes.Structure):
             found.append(TYPES[of](*(integer() for _ in TYPES[of]._fields_)))
         else:
-            found.append(TYPES[of](random.randrange(36) if name == "fraction_bits" else integer()))
+            found.append(TYPES[of](integer()))
     return found
 
 

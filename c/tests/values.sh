@@ -22,14 +22,14 @@ for compiler in "${compilers[@]}"; do
         run "$work/table"
     done
     fails "$work/table" wrong
-    [[ $(<"$work/log") == *' 1 failed' ]]
+    has "$(<"$work/log")" ' 1 failed'
     $cpp -std=c++20 $strict -x c++ tests/header.c -o "$work/header"
     run "$work/header"
     $c -std=c99 $strict tests/header.c -o "$work/header"
     run "$work/header"
     $c -std=c99 "-I$work/storing" $strict tests/header.c -o "$work/header"
     fails "$work/header"
-    [[ $(<"$work/log") != *' 0 failed'* ]]
+    fails grep ' 0 failed' "$work/log"
 done
 
 # If valgrind is installed, a trace of what is loaded and stored: what a call writes may be

@@ -97,7 +97,7 @@ def exports(room: Path) -> tuple[str, str]:
     foreign = "".join(f"{head};\n" for of in heads for head in of)
     return (
         module,
-        f'use font_c::{{FontMatrix, FontPad, FontPoint}};\nunsafe extern "C" {{ {foreign} }}\n',
+        f'use font_c::{{FontFraction, FontMatrix, FontPad, FontPoint}};\nunsafe extern "C" {{ {foreign} }}\n',
     )
 
 

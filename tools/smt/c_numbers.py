@@ -3,7 +3,9 @@
 import z3
 from z3 import BitVecRef
 
+import inputs
 from c_row import BAD_FRACTION, OUT_OF_RANGE, always, fallible, row, status
+from cases import Rule
 from rules import N, Products, S, U, fits, near, together, up, whole, wrap
 from values import constant
 
@@ -72,14 +74,16 @@ def rounded(w: int, most: int) -> None:
         of_known = status(fits(w, n), OUT_OF_RANGE)
         return z3.If(is_known, of_known, constant(BAD_FRACTION, 32)), wrap(w, n)
 
-    fallible(f"round_i{w}", f"x: i{w}, f: u32", f"i{w}", f"fty_round_i{w}(x, f, &it)", outcome)
+    fallible(f"checked_round_i{w}", f"x: i{w}, f: u32", f"i{w}",
+             f"fty_checked_round_i{w}(x, FTY_FRACTION(f), &it)", outcome)
 
 
 for w, most in ((16, 14), (32, 30), (64, 30)):
     rounded(w, most)
-row("delta_set_length", "x: u16, y: u16", "u64", "fty_delta_set_length(x, y)",
-    lambda p, x, y: (lambda n: wrap(64, z3.If(z3.ULT(x, 0x8000), n, 2 * n)))(
-        U(x & 0x7FFF) + U(y)))
+row("delta_set_length", "n: size, x: u16", "u64",
+    "({ const fty_numbers scalars = {NULL, n}; fty_delta_set_length(scalars, x); })",
+    lambda p, n, x: (lambda bytes_: z3.ZeroExt(64 - inputs.POINTER, wrap(inputs.POINTER, z3.If(
+        z3.ULT(x, 0x8000), bytes_, 2 * bytes_))))(U(x & 0x7FFF) + U(n)))
 row("FTY_TAG", "a: i32, b: i32, c: i32, d: i32", "u32", "FTY_TAG(a, b, c, d)",
     lambda p, *v: together([z3.Extract(7, 0, it) for it in v]))
 row("FTY_PAD_INIT, width", "n: size", "u64", "({ fty_pad it = FTY_PAD_INIT(n); it.width; })",
@@ -96,26 +100,43 @@ of_status = "".join(f"x == {k} ? {DIFFERS % (it, it)} : " for k, it in enumerate
 always("status_text", "x: u32", "bool", "({ const char *const it = fty_status_text((fty_status)x);"
        f" ({of_status}{DIFFERS % (TEXTS[9], TEXTS[9])}) == 0; }})", 1)
 
-# ---------------------------------------------------------------- names by format
-# What the exports do here, by which a row sees each argument that they get.
+# ---------------------------------------------------------------- what calls the library
+# What the exports do here, by which a row sees each argument that they get: of parsing the bits and
+# the status, and else a sum with a weight for each argument.
 EXPORTS = """
-#define PARSE(W)                                                                               \\
-    fty_status fty_parse_i##W(const char *text, size_t length, uint32_t f, int##W##_t *bits) { \\
-        *bits = (int##W##_t)(f << 8 | (uint8_t)*text);                                         \\
-        return (fty_status)length;                                                             \\
+#define PARSE(W)                                                                                 \\
+    fty_status fty_parse_i##W(const char *text, size_t length, fty_fraction f, int##W##_t *it) { \\
+        *it = (int##W##_t)(f.bits << 8 | (uint8_t)*text);                                        \\
+        return (fty_status)(length ^ (uint64_t)length >> 32);                                    \\
     }
 PARSE(16)
 PARSE(32)
-fty_status fty_format(int64_t bits, uint32_t f, char *out, size_t room, size_t *length) {
-    *out = (char)f;
-    *length = (size_t)bits;
-    return (fty_status)room;
+static fty_status writes(int kind, uint64_t sum, char *out, size_t *length) {
+    __builtin_memcpy(out, &sum, sizeof sum);
+    *length = kind;
+    return (fty_status)(kind + 1);
 }
-fty_status fty_format_padded(int64_t bits, uint32_t f, const fty_pad *pad, char *out, size_t room,
-                             size_t *length) {
-    *out = (char)(f + 1);
-    *length = (size_t)bits;
-    return (fty_status)(room ^ pad->width);
+fty_status fty_api_format(int64_t bits, fty_fraction f, char *out, size_t room, size_t *length) {
+    return writes(1, 3 * (uint64_t)bits + 5 * (uint64_t)f.bits + 7 * (uint64_t)room, out, length);
+}
+fty_status fty_api_format_padded(int64_t bits, fty_fraction f, const fty_pad *pad, char *out,
+                                 size_t room, size_t *length) {
+    const uint64_t sum = 3 * (uint64_t)bits + 5 * (uint64_t)f.bits + 7 * (uint64_t)room;
+    return writes(2, sum + 9 * (uint64_t)pad->width, out, length);
+}
+fty_status fty_api_tag_to_text(uint32_t tag, char *out, size_t room, size_t *length) {
+    return writes(3, 3 * (uint64_t)tag + 7 * (uint64_t)room, out, length);
+}
+fty_status fty_api_delta_sum(const int32_t *x, size_t n, const int32_t *y, size_t m,
+                             int64_t *sum) {
+    *sum = (int64_t)(3 * (uint64_t)*x + 5 * (uint64_t)*y + 7 * (uint64_t)n + 9 * (uint64_t)m);
+    return (fty_status)5;
+}
+fty_status fty_api_delta_set_sum(const int32_t *x, size_t n, const uint8_t *set, size_t m,
+                                 uint16_t words, int64_t *sum) {
+    *sum = (int64_t)(3 * (uint64_t)*x + 5 * (uint64_t)*set + 7 * (uint64_t)n + 9 * (uint64_t)m
+                     + 11 * (uint64_t)words);
+    return (fty_status)6;
 }
 """
 for T, w, f in (("fixed", 32, 16), ("f2dot14", 16, 14), ("f26dot6", 32, 6)):
@@ -123,15 +144,43 @@ for T, w, f in (("fixed", 32, 16), ("f2dot14", 16, 14), ("f26dot6", 32, 6)):
         f" (void)!fty_{T}_parse(&text, 0, &it); it; }})",
         lambda p, c, w=w, f=f: wrap(w, U(c) + (f << 8)))
     row(f"{T}_parse, status", "n: size", "u32", f"({{ const char text = 0; int{w}_t it;"
-        f" (uint32_t)fty_{T}_parse(&text, n, &it); }})", lambda p, n: wrap(32, U(n)))
-    for name, pad, one in (("format", "", 0), ("format_padded", "&pad, ", 1)):
-        call = f"fty_{T}_{name}(x, {pad}&text, n, &it)"
-        head = f"({{ const fty_pad pad = FTY_PAD_INIT(m); size_t it; char text;"
-        of = f"x: i{w}, n: size, m: size"
-        row(f"{T}_{name}, length", of, "i64", f"{head} (void)!{call}; (ptrdiff_t)it; }})",
-            lambda p, x, n, m: wrap(64, S(x)))
-        row(f"{T}_{name}, fraction bits", of, "u8", f"{head} (void)!{call}; (uint8_t)text; }})",
-            lambda p, x, n, m, f=f + one: constant(f, 8))
-        row(f"{T}_{name}, status", of, "u32", f"{head} (uint32_t){call}; }})",
-            lambda p, x, n, m, one=one: wrap(32, U(n ^ m if one else n)))
+        f" (uint32_t)fty_{T}_parse(&text, n, &it); }})",
+        lambda p, n: z3.Extract(63, 32, n) ^ z3.Extract(31, 0, n))
+
+
+def written(name: str, of: str, call: str, kind: int, total: Rule) -> None:
+    """A function that writes text: it hands on each argument, and what the export returns."""
+    start = "({ char text[8]; const fty_buffer out = {text, n}; size_t length; uint64_t it;"
+    row(name, f"n: size, {of}", "u64", f"{start} (void)!{call};"
+        " __builtin_memcpy(&it, text, 8); it; })",
+        lambda p, n, *given: wrap(64, 7 * U(n) + total(*given)))
+    always(f"{name}, status and length", f"n: size, {of}", "u32",
+           f"{start} const uint32_t found = (uint32_t){call}; found << 8 | (uint32_t)length; }})",
+           (kind + 1) << 8 | kind)
+
+
+for T, w, f in (("fixed_", 32, 16), ("f2dot14_", 16, 14), ("f26dot6_", 32, 6)):
+    written(f"{T}format", f"x: i{w}", f"fty_{T}format(x, out, &length)", 1,
+            lambda x, f=f: 3 * S(x) + 5 * f)
+    written(f"{T}format_padded", f"x: i{w}, m: size", "({ const fty_pad pad = FTY_PAD_INIT(m);"
+            f" fty_{T}format_padded(x, &pad, out, &length); }})", 2,
+            lambda x, m, f=f: 3 * S(x) + 5 * f + 9 * U(m))
+written("format", "x: i64, f: u32", "fty_format(x, FTY_FRACTION(f), out, &length)", 1,
+        lambda x, f: 3 * S(x) + 5 * U(f))
+written("format_padded", "x: i64, f: u32, m: size", "({ const fty_pad pad = FTY_PAD_INIT(m);"
+        " fty_format_padded(x, FTY_FRACTION(f), &pad, out, &length); })", 2,
+        lambda x, f, m: 3 * S(x) + 5 * U(f) + 9 * U(m))
+written("tag_to_text", "x: u32", "fty_tag_to_text(x, out, &length)", 3, lambda x: 3 * U(x))
+for name, of, value, given, words, kind in (
+    ("delta_sum", "fty_numbers", "int32_t", "y: i32", "", 5),
+    ("delta_set_sum", "fty_view", "uint8_t", "y: u8, z: u16", "z, ", 6),
+):
+    call = f"fty_{name}(scalars, other, {words}&it)"
+    start = f"({{ const int32_t first = x; const {value} second = y; int64_t it;"
+    start += f" const fty_numbers scalars = {{&first, n}}; const {of} other = {{&second, m}};"
+    total = f"x: i32, n: size, m: size, {given}"
+    row(name, total, "i64", f"{start} (void)!{call}; it; }})",
+        lambda p, x, n, m, y, z=None: wrap(64, 3 * S(x) + 7 * U(n) + 9 * U(m) + (
+            5 * S(y) if z is None else 5 * U(y) + 11 * U(z))))
+    always(f"{name}, status", total, "u32", f"{start} (uint32_t){call}; }})", kind)
 # fmt: on

@@ -49,23 +49,21 @@ for name, (size, type_) in FIELDS.items():
     field(name, size, type_)
 
 
-def sized(p: Products, text: Text, at: BitVecRef, n: BitVecRef) -> tuple[Any, Any]:
-    """ "An unsigned integer of `size` bytes, 1 to 4"."""
+def sized(text: Text, n: BitVecRef) -> tuple[Any, Any]:
+    """The unsigned integer of the first bytes, 1 to 4."""
     answer, value = constant(OUT_OF_BOUNDS, 32), constant(0, 32)
     for size in range(1, 5):
-        here = z3.And(n == size, text.has(at, size))
+        here = z3.And(n == size, text.has(ZERO, size))
         answer = z3.If(here, constant(0, 32), answer)
-        value = z3.If(here, number(text, at, size, "u32"), value)
+        value = z3.If(here, number(text, 0, size, "u32"), value)
     return answer, value
 
 
-row("uint", "text: bytes, at: size, n: size", "u32", "fty_uint(view, at, n)",
-    lambda *given: sized(*given)[1])
-always("uint, absent", "at: size, n: size", "u32", "fty_uint(fty_absent(), at, n)", 0)
-fallible("read_uint", "text: bytes, at: size, n: size", "u32", "fty_read_uint(view, at, n, &it)",
-         sized)
-fallible("read_uint, absent", "at: size, n: size", "u32", "fty_read_uint(fty_absent(), at, n, &it)",
-         out_of_bounds())
+row("uint", "text: bytes", "u32", "fty_uint(view)", lambda p, text: sized(text, text.length)[1])
+always("uint, absent", "x: u8", "u32", "fty_uint(fty_absent())", 0)
+fallible("read_uint", "text: bytes", "u32", "fty_read_uint(view, &it)",
+         lambda p, text: sized(text, text.length))
+fallible("read_uint, absent", "x: u8", "u32", "fty_read_uint(fty_absent(), &it)", out_of_bounds())
 
 
 # ---------------------------------------------------------------- what is taken from a view
@@ -97,7 +95,7 @@ for name, (size, type_) in FIELDS.items():
     take(name, size, type_)
 fallible("take_uint", "text: bytes, n: size", "u32",
          "({ fty_view rest = view; fty_take_uint(&rest, n, &it); })",
-         lambda p, text, n: sized(p, text, ZERO, n))
+         lambda p, text, n: sized(text, n))
 taken("take_uint", ", n: size", "(void)!fty_take_uint(&rest, n, (uint32_t *)&it)",
       lambda text, n: (z3.And(n >= 1, n <= 4, z3.ULE(n, text.length)), n))
 TAKEN = "({ fty_view rest = view; const fty_view it = fty_take(&rest, n); %s; })"
@@ -297,10 +295,6 @@ always("absent", "x: u8", "bool",
        f"({{ const fty_view it = fty_absent(); {IS_ABSENT.format('it')}; }})", 1)
 
 
-def is_within(text: Text, at: BitVecRef, n: BitVecRef) -> z3.BoolRef:
-    return z3.And(z3.ULE(at, text.length), z3.ULE(n, text.length - at))
-
-
 def part(name: str, extra: str, call: str, place: Rule) -> None:
     """`place` returns where the part begins, how long it is, and whether it is there. Of an absent
     view, each part has null bytes and no length."""
@@ -333,18 +327,17 @@ def at_offset(size: int) -> Rule:
     return place
 
 
-def items(p: Products, text: Text, at: Any, n: Any, size: Any) -> Outcome:
+def items(p: Products, text: Text, n: Any, size: Any) -> Outcome:
     """As many as the size fits in what is there, computed in the bits of a length."""
     low: Rule = lambda it: z3.simplify(z3.Extract(inputs.POINTER - 1, 0, it))
-    rest = z3.simplify(low(text.length) - low(at))
-    fit = z3.Or(size == 0, z3.ULE(low(n), p.arithmetic.divide(rest, low(size))))
+    fit = z3.Or(size == 0, z3.ULE(low(n), p.arithmetic.divide(low(text.length), low(size))))
     length = z3.ZeroExt(64 - inputs.POINTER, p.arithmetic.multiply(low(n), low(size)))
-    return at, length, z3.And(z3.ULE(at, text.length), fit)
+    return ZERO, length, fit
 
 
-part("part", "at: size, n: size", "part(view, at, n)",
-     lambda p, text, at, n: (at, n, is_within(text, at, n)))
-part("items", "at: size, n: size, size: size", "items(view, at, n, size)", items)
+part("first", "n: size", "first(view, n)",
+     lambda p, text, n: (ZERO, n, z3.ULE(n, text.length)))
+part("items", "n: size, size: size", "items(view, n, size)", items)
 part("from", "at: size", "from(view, at)", to_the_end)
 for size in (2, 3, 4):
     part(f"at_offset{8 * size}", "at: size", f"at_offset{8 * size}(view, at)", at_offset(size))
@@ -355,7 +348,8 @@ def copied(
     text: Text, at: BitVecRef, of: Text, start: BitVecRef, n: BitVecRef, result: Any, after: Text
 ) -> Any:
     """Each byte is that of the view before, or what it was."""
-    place, fit = z3.BitVec("place", 64), z3.And(is_within(text, at, n), is_within(of, start, n))
+    place, within = z3.BitVec("place", 64), z3.And(z3.ULE(at, text.length), z3.ULE(start, of.length))
+    fit = z3.And(within, z3.ULE(n, text.length - at), z3.ULE(n, of.length - start))
     here = z3.And(fit, z3.ULT(place - at, n))
     new = z3.If(here, of.byte(z3.simplify(start + (place - at))), text.byte(place))
     is_right = z3.Implies(z3.ULT(place, text.length), after.byte(place) == new)
@@ -374,7 +368,7 @@ row("write_bytes, own", "text: room, at: size, from: size, n: size", "u32",
 row("write_bytes, absent", "text: room, at: size", "u32",
     "fty_write_bytes(fty_span_from(span, at), fty_absent())",
     lambda p, text, at, result, after: z3.And(
-        result == OUT_OF_BOUNDS, is_kept(text, after)), True)
+        result == status(z3.ULE(at, text.length)), is_kept(text, after)), True)
 always("write_bytes, to none", "other: bytes", "u32",
        "fty_write_bytes((fty_span){NULL, 0}, (fty_view){other, other_length})", OUT_OF_BOUNDS)
 OTHER = "fty_put_bytes(&rest, (fty_view){other, other_length})"

@@ -44,10 +44,10 @@ def answer(status: BitVecRef, stored: BitVecRef) -> BitVecRef:
 def moved_by_delta(i: str) -> None:
     """By the rule of `checked_add_delta`. If it fails, what was there stays."""
     number, fit = (S, fits) if i == "i16" else (U, fits_unsigned)
-    total = lambda x, y: up(number(x) * 65536 + S(y), 16)
-    stores(f"fty_checked_add_delta_{i}(x, y, &mut old)", f"x: {i}, y: i64", i,
-           lambda p, x, y, old: z3.If(
-               fit(16, total(x, y)), answer(z3.BitVecVal(0, 32), wrap(16, total(x, y))),
+    total = lambda x, old: up(number(old) * 65536 + S(x), 16)
+    stores(f"fty_checked_add_delta_{i}(x, &mut old)", "x: i64", i,
+           lambda p, x, old: z3.If(
+               fit(16, total(x, old)), answer(z3.BitVecVal(0, 32), wrap(16, total(x, old))),
                answer(z3.BitVecVal(OUT_OF_RANGE, 32), old)))
 
 
@@ -76,7 +76,7 @@ def new_tag(p: Any, text: Text, old: BitVecRef) -> BitVecRef:
 
 
 stores("fty_tag_validate(tag, &mut old)", "tag: u32", "u32", validate)
-stores("fty_tag_new(text.as_ptr(), text.len(), &mut old)", "text: bytes", "u32", new_tag)
+stores("fty_tag_new_checked(text.as_ptr(), text.len(), &mut old)", "text: bytes", "u32", new_tag)
 
 matrix = lambda of: "FontMatrix { " + ", ".join(f"{it}: {of}{it}" for it in ENTRIES) + " }"
 both = "(it.{} as u32 as u64) << 32 | it.{} as u32 as u64"

@@ -11,7 +11,7 @@ use font_types::{DeltaSum, F48Dot16, FWord, Fixed, UfWord};
 
 /// Adds up the products of 16.16 scalars and deltas, item by item, in 48.16.
 #[unsafe(no_mangle)]
-pub extern "C" fn fty_delta_sum(scalars: &[i32], deltas: &[i32], sum: &mut i64) -> u32
+pub extern "C" fn fty_api_delta_sum(scalars: &[i32], deltas: &[i32], sum: &mut i64) -> u32
     ensures { StoresSum scalars.now deltas.now result sum.old sum.new }
 {
     if scalars.len() != deltas.len() {
@@ -24,35 +24,35 @@ pub extern "C" fn fty_delta_sum(scalars: &[i32], deltas: &[i32], sum: &mut i64) 
     OK
 }
 
-/// Adds a 48.16 delta to signed font units, and rounds to the nearest font unit, half up.
+/// Adds a 48.16 delta to signed font units in place, and rounds to the nearest font unit, half up.
 #[unsafe(no_mangle)]
-pub extern "C" fn fty_checked_add_delta_i16(base: i16, delta: i64, units: &mut i16) -> u32
-    ensures fits { (result ≡ 0) ↔ ((neg_ℤ (pos 32768) ≤ℤ moved_by base delta)
-        × (moved_by base delta <ℤ pos 32768)) }
-    ensures stored { result ≡ 0 → units.new ≡ moved_by base delta }
+pub extern "C" fn fty_checked_add_delta_i16(delta: i64, units: &mut i16) -> u32
+    ensures fits { (result ≡ 0) ↔ ((neg_ℤ (pos 32768) ≤ℤ moved_by units.old delta)
+        × (moved_by units.old delta <ℤ pos 32768)) }
+    ensures stored { result ≡ 0 → units.new ≡ moved_by units.old delta }
     ensures known { result ≢ 0 → result ≡ out_of_range }
     ensures kept { result ≢ 0 → units.new ≡ units.old }
 {
     let delta = F48Dot16::from_bits(delta);
-    let Some(moved) = FWord::new(base).checked_add_delta(delta) else {
+    let Some(moved) = FWord::new(*units).checked_add_delta(delta) else {
         return OUT_OF_RANGE;
     };
     *units = moved.to_i16();
     OK
 }
 
-/// Adds a 48.16 delta to unsigned font units, as advances are, and rounds to the nearest font unit,
-/// half up.
+/// Adds a 48.16 delta to unsigned font units, as advances are, in place, and rounds to the nearest
+/// font unit, half up.
 #[unsafe(no_mangle)]
-pub extern "C" fn fty_checked_add_delta_u16(base: u16, delta: i64, units: &mut u16) -> u32
-    ensures fits { (result ≡ 0) ↔ ((pos 0 ≤ℤ moved_by (pos base) delta)
-        × (moved_by (pos base) delta <ℤ pos 65536)) }
-    ensures stored { result ≡ 0 → pos units.new ≡ moved_by (pos base) delta }
+pub extern "C" fn fty_checked_add_delta_u16(delta: i64, units: &mut u16) -> u32
+    ensures fits { (result ≡ 0) ↔ ((pos 0 ≤ℤ moved_by (pos units.old) delta)
+        × (moved_by (pos units.old) delta <ℤ pos 65536)) }
+    ensures stored { result ≡ 0 → pos units.new ≡ moved_by (pos units.old) delta }
     ensures known { result ≢ 0 → result ≡ out_of_range }
     ensures kept { result ≢ 0 → units.new ≡ units.old }
 {
     let delta = F48Dot16::from_bits(delta);
-    let Some(moved) = UfWord::new(base).checked_add_delta(delta) else {
+    let Some(moved) = UfWord::new(*units).checked_add_delta(delta) else {
         return OUT_OF_RANGE;
     };
     *units = moved.to_u16();

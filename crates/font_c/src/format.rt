@@ -6,7 +6,8 @@ ghost use Rattle.font_types.specs.Padding.{padded_text, unsigned_body};
 ghost use Rattle.font_c.specs.Pads.{IsPad, pad_of, WritesPadded};
 ghost use Rattle.font_c.specs.{Texts.WritesText, Status.bad_fraction, Status.IsFraction};
 
-use crate::status::{BAD_FRACTION, BAD_PAD, BUFFER_TOO_SMALL, OK, is_fraction};
+use crate::fraction::{FontFraction, is_fraction};
+use crate::status::{BAD_FRACTION, BAD_PAD, BUFFER_TOO_SMALL, OK};
 use font_types::{Align, Pad, Shortest};
 
 /// How to pad a decimal.
@@ -59,23 +60,23 @@ impl TryFrom<FontPad> for Pad {
 /// length to `written`.
 #[unsafe(no_mangle)]
 #[tactic(auto, using(crate::proofs::Texts::short_text_fits))]
-pub extern "C" fn fty_format(
+pub extern "C" fn fty_api_format(
     bits: i64,
-    fraction_bits: u32,
+    fraction: FontFraction,
     out: &mut [u8],
     written: &mut usize,
 ) -> u32
-    ensures text { IsFraction 64 fraction_bits → WritesText (shortest_text bits fraction_bits)
+    ensures text { IsFraction 64 fraction.bits → WritesText (shortest_text bits fraction.bits)
         result written.old written.new out.old out.new }
-    ensures enough { IsFraction 64 fraction_bits → 22 ≤ length out.old → result ≡ 0 }
-    ensures refused { ¬ IsFraction 64 fraction_bits
+    ensures enough { IsFraction 64 fraction.bits → 22 ≤ length out.old → result ≡ 0 }
+    ensures refused { ¬ IsFraction 64 fraction.bits
         → (result ≡ bad_fraction) × (written.new ≡ written.old) × (out.new ≡ out.old) }
 {
-    if !is_fraction(64, fraction_bits) {
+    if !is_fraction(64, fraction.bits) {
         return BAD_FRACTION;
     }
     put_text(
-        Shortest::new(bits, fraction_bits).as_str().as_bytes(),
+        Shortest::new(bits, fraction.bits).as_str().as_bytes(),
         out,
         written,
     )
@@ -83,24 +84,24 @@ pub extern "C" fn fty_format(
 
 /// Writes that decimal padded to the start of `out`, and its length to `written`.
 #[unsafe(no_mangle)]
-pub extern "C" fn fty_format_padded(
+pub extern "C" fn fty_api_format_padded(
     bits: i64,
-    fraction_bits: u32,
+    fraction: FontFraction,
     pad: &FontPad,
     out: &mut [u8],
     written: &mut usize,
 ) -> u32
-    ensures padded { IsFraction 64 fraction_bits → WritesPadded bits fraction_bits pad.now result
+    ensures padded { IsFraction 64 fraction.bits → WritesPadded bits fraction.bits pad.now result
         written.old written.new out.old out.new }
-    ensures refused { ¬ IsFraction 64 fraction_bits
+    ensures refused { ¬ IsFraction 64 fraction.bits
         → (result ≡ bad_fraction) × (written.new ≡ written.old) × (out.new ≡ out.old) }
 {
-    if !is_fraction(64, fraction_bits) {
+    if !is_fraction(64, fraction.bits) {
         return BAD_FRACTION;
     }
     match Pad::try_from(*pad) {
         Ok(pad) => put_padded(
-            Shortest::new(bits, fraction_bits).as_str(),
+            Shortest::new(bits, fraction.bits).as_str(),
             &pad,
             out,
             written,

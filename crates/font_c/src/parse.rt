@@ -4,50 +4,51 @@ ghost use Rattle.std.specs.{Prelude.◌≡◌, Prelude.◌≢◌, Prelude.◌<�
 ghost use Rattle.font_c.specs.Readings.{result_of, ParsesInto};
 ghost use Rattle.font_c.specs.Status.{bad_fraction, IsFraction};
 
-use crate::status::{BAD_FRACTION, NOT_DECIMAL, OK, OUT_OF_RANGE, is_fraction};
+use crate::fraction::{FontFraction, is_fraction};
+use crate::status::{BAD_FRACTION, NOT_DECIMAL, OK, OUT_OF_RANGE};
 use font_fixed::{read_bits_16, read_bits_32, read_bits_64};
 use font_types::DecimalFault;
 
 /// Parses a decimal as the nearest 16-bit raw value, rounding half away from zero.
 #[unsafe(no_mangle)]
-pub extern "C" fn fty_parse_i16(text: &[u8], fraction_bits: u32, bits: &mut i16) -> u32
-    ensures parsed { IsFraction 16 fraction_bits
-        → ParsesInto w16 fraction_bits text.now result bits.old bits.new }
-    ensures refused { ¬ IsFraction 16 fraction_bits
+pub extern "C" fn fty_parse_i16(text: &[u8], fraction: FontFraction, bits: &mut i16) -> u32
+    ensures parsed { IsFraction 16 fraction.bits
+        → ParsesInto w16 fraction.bits text.now result bits.old bits.new }
+    ensures refused { ¬ IsFraction 16 fraction.bits
         → (result ≡ bad_fraction) × (bits.new ≡ bits.old) }
 {
-    if !is_fraction(16, fraction_bits) {
+    if !is_fraction(16, fraction.bits) {
         return BAD_FRACTION;
     }
-    store_reading(read_bits_16(text, fraction_bits), bits)
+    store_reading(read_bits_16(text, fraction.bits), bits)
 }
 
 /// Parses a decimal as the nearest 32-bit raw value, rounding half away from zero.
 #[unsafe(no_mangle)]
-pub extern "C" fn fty_parse_i32(text: &[u8], fraction_bits: u32, bits: &mut i32) -> u32
-    ensures parsed { IsFraction 32 fraction_bits
-        → ParsesInto w32 fraction_bits text.now result bits.old bits.new }
-    ensures refused { ¬ IsFraction 32 fraction_bits
+pub extern "C" fn fty_parse_i32(text: &[u8], fraction: FontFraction, bits: &mut i32) -> u32
+    ensures parsed { IsFraction 32 fraction.bits
+        → ParsesInto w32 fraction.bits text.now result bits.old bits.new }
+    ensures refused { ¬ IsFraction 32 fraction.bits
         → (result ≡ bad_fraction) × (bits.new ≡ bits.old) }
 {
-    if !is_fraction(32, fraction_bits) {
+    if !is_fraction(32, fraction.bits) {
         return BAD_FRACTION;
     }
-    store_reading(read_bits_32(text, fraction_bits), bits)
+    store_reading(read_bits_32(text, fraction.bits), bits)
 }
 
 /// Parses a decimal as the nearest 64-bit raw value, rounding half away from zero.
 #[unsafe(no_mangle)]
-pub extern "C" fn fty_parse_i64(text: &[u8], fraction_bits: u32, bits: &mut i64) -> u32
-    ensures parsed { IsFraction 64 fraction_bits
-        → ParsesInto w64 fraction_bits text.now result bits.old bits.new }
-    ensures refused { ¬ IsFraction 64 fraction_bits
+pub extern "C" fn fty_parse_i64(text: &[u8], fraction: FontFraction, bits: &mut i64) -> u32
+    ensures parsed { IsFraction 64 fraction.bits
+        → ParsesInto w64 fraction.bits text.now result bits.old bits.new }
+    ensures refused { ¬ IsFraction 64 fraction.bits
         → (result ≡ bad_fraction) × (bits.new ≡ bits.old) }
 {
-    if !is_fraction(64, fraction_bits) {
+    if !is_fraction(64, fraction.bits) {
         return BAD_FRACTION;
     }
-    store_reading(read_bits_64(text, fraction_bits), bits)
+    store_reading(read_bits_64(text, fraction.bits), bits)
 }
 
 // Stores a parsed value, and returns the status.

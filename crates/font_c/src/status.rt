@@ -1,8 +1,5 @@
 //! The results of the exports: `fty_status` of the header.
 
-ghost use Rattle.std.specs.Prelude.{◌↔◌, ◌≤◌, ◌+◌, IsTrue};
-ghost use Rattle.font_c.specs.Status.{IsFraction};
-
 /// Success: the result was stored.
 pub const OK: u32 = 0;
 
@@ -35,10 +32,3 @@ pub const TAG_BYTE: u32 = 11;
 
 /// A printable byte follows a space in a tag.
 pub const TAG_AFTER_SPACE: u32 = 12;
-
-/// Returns `true` if values of `width` bits may have `fraction_bits`.
-pub fn is_fraction(width: u32, fraction_bits: u32) -> bool
-    ensures { IsTrue result ↔ IsFraction width fraction_bits }
-{
-    6 <= fraction_bits && fraction_bits <= 30 && fraction_bits + 2 <= width
-}

@@ -7,7 +7,7 @@ use crate::font_types::{DeltaSum, F48Dot16, FWord, Fixed, UfWord};
 
 /// Adds up the products of 16.16 scalars and deltas, item by item, in 48.16.
 #[unsafe(no_mangle)]
-pub unsafe extern "C" fn fty_delta_sum(
+pub unsafe extern "C" fn fty_api_delta_sum(
     scalars: *const i32,
     scalars_len: usize,
     deltas: *const i32,
@@ -26,23 +26,23 @@ pub unsafe extern "C" fn fty_delta_sum(
     OK
 }
 
-/// Adds a 48.16 delta to signed font units, and rounds to the nearest font unit, half up.
+/// Adds a 48.16 delta to signed font units in place, and rounds to the nearest font unit, half up.
 #[unsafe(no_mangle)]
-pub unsafe extern "C" fn fty_checked_add_delta_i16(base: i16, delta: i64, units: &mut i16) -> u32 {
+pub unsafe extern "C" fn fty_checked_add_delta_i16(delta: i64, units: &mut i16) -> u32 {
     let delta = F48Dot16::from_bits(delta);
-    let Some(moved) = FWord::new(base).checked_add_delta(delta) else {
+    let Some(moved) = FWord::new(*units).checked_add_delta(delta) else {
         return OUT_OF_RANGE;
     };
     *units = moved.to_i16();
     OK
 }
 
-/// Adds a 48.16 delta to unsigned font units, as advances are, and rounds to the nearest font unit,
-/// half up.
+/// Adds a 48.16 delta to unsigned font units, as advances are, in place, and rounds to the nearest
+/// font unit, half up.
 #[unsafe(no_mangle)]
-pub unsafe extern "C" fn fty_checked_add_delta_u16(base: u16, delta: i64, units: &mut u16) -> u32 {
+pub unsafe extern "C" fn fty_checked_add_delta_u16(delta: i64, units: &mut u16) -> u32 {
     let delta = F48Dot16::from_bits(delta);
-    let Some(moved) = UfWord::new(base).checked_add_delta(delta) else {
+    let Some(moved) = UfWord::new(*units).checked_add_delta(delta) else {
         return OUT_OF_RANGE;
     };
     *units = moved.to_u16();

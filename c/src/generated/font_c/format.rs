@@ -2,7 +2,8 @@
 
 //! Decimals written to buffers of C.
 
-use crate::font_c::status::{BAD_FRACTION, BAD_PAD, BUFFER_TOO_SMALL, OK, is_fraction};
+use crate::font_c::fraction::{FontFraction, is_fraction};
+use crate::font_c::status::{BAD_FRACTION, BAD_PAD, BUFFER_TOO_SMALL, OK};
 use crate::font_types::{Align, Pad, Shortest};
 
 /// How to pad a decimal.
@@ -51,36 +52,36 @@ impl TryFrom<FontPad> for Pad {
 /// Writes the shortest decimal that parses back to the raw value to the start of `out`, and its
 /// length to `written`.
 #[unsafe(no_mangle)]
-pub unsafe extern "C" fn fty_format(
+pub unsafe extern "C" fn fty_api_format(
     bits: i64,
-    fraction_bits: u32,
+    fraction: FontFraction,
     out: *mut u8,
     out_len: usize,
     written: &mut usize,
 ) -> u32 {
     let out = unsafe { crate::slice_mut(out, out_len) };
-    if !is_fraction(64, fraction_bits) {
+    if !is_fraction(64, fraction.bits) {
         return BAD_FRACTION;
     }
-    put_text(Shortest::new(bits, fraction_bits).as_str().as_bytes(), out, written)
+    put_text(Shortest::new(bits, fraction.bits).as_str().as_bytes(), out, written)
 }
 
 /// Writes that decimal padded to the start of `out`, and its length to `written`.
 #[unsafe(no_mangle)]
-pub unsafe extern "C" fn fty_format_padded(
+pub unsafe extern "C" fn fty_api_format_padded(
     bits: i64,
-    fraction_bits: u32,
+    fraction: FontFraction,
     pad: &FontPad,
     out: *mut u8,
     out_len: usize,
     written: &mut usize,
 ) -> u32 {
     let out = unsafe { crate::slice_mut(out, out_len) };
-    if !is_fraction(64, fraction_bits) {
+    if !is_fraction(64, fraction.bits) {
         return BAD_FRACTION;
     }
     match Pad::try_from(*pad) {
-        Ok(pad) => put_padded(Shortest::new(bits, fraction_bits).as_str(), &pad, out, written),
+        Ok(pad) => put_padded(Shortest::new(bits, fraction.bits).as_str(), &pad, out, written),
         Err(_) => BAD_PAD,
     }
 }

@@ -2,7 +2,8 @@
 
 //! Decimals parsed to raw values.
 
-use crate::font_c::status::{BAD_FRACTION, NOT_DECIMAL, OK, OUT_OF_RANGE, is_fraction};
+use crate::font_c::fraction::{FontFraction, is_fraction};
+use crate::font_c::status::{BAD_FRACTION, NOT_DECIMAL, OK, OUT_OF_RANGE};
 use crate::font_fixed::{read_bits_16, read_bits_32, read_bits_64};
 use crate::font_types::DecimalFault;
 
@@ -11,14 +12,14 @@ use crate::font_types::DecimalFault;
 pub unsafe extern "C" fn fty_parse_i16(
     text: *const u8,
     text_len: usize,
-    fraction_bits: u32,
+    fraction: FontFraction,
     bits: &mut i16,
 ) -> u32 {
     let text = unsafe { crate::slice(text, text_len) };
-    if !is_fraction(16, fraction_bits) {
+    if !is_fraction(16, fraction.bits) {
         return BAD_FRACTION;
     }
-    store_reading(read_bits_16(text, fraction_bits), bits)
+    store_reading(read_bits_16(text, fraction.bits), bits)
 }
 
 /// Parses a decimal as the nearest 32-bit raw value, rounding half away from zero.
@@ -26,14 +27,14 @@ pub unsafe extern "C" fn fty_parse_i16(
 pub unsafe extern "C" fn fty_parse_i32(
     text: *const u8,
     text_len: usize,
-    fraction_bits: u32,
+    fraction: FontFraction,
     bits: &mut i32,
 ) -> u32 {
     let text = unsafe { crate::slice(text, text_len) };
-    if !is_fraction(32, fraction_bits) {
+    if !is_fraction(32, fraction.bits) {
         return BAD_FRACTION;
     }
-    store_reading(read_bits_32(text, fraction_bits), bits)
+    store_reading(read_bits_32(text, fraction.bits), bits)
 }
 
 /// Parses a decimal as the nearest 64-bit raw value, rounding half away from zero.
@@ -41,14 +42,14 @@ pub unsafe extern "C" fn fty_parse_i32(
 pub unsafe extern "C" fn fty_parse_i64(
     text: *const u8,
     text_len: usize,
-    fraction_bits: u32,
+    fraction: FontFraction,
     bits: &mut i64,
 ) -> u32 {
     let text = unsafe { crate::slice(text, text_len) };
-    if !is_fraction(64, fraction_bits) {
+    if !is_fraction(64, fraction.bits) {
         return BAD_FRACTION;
     }
-    store_reading(read_bits_64(text, fraction_bits), bits)
+    store_reading(read_bits_64(text, fraction.bits), bits)
 }
 
 // Stores a parsed value, and returns the status.

@@ -34,8 +34,3 @@ pub const TAG_BYTE: u32 = 11;
 
 /// A printable byte follows a space in a tag.
 pub const TAG_AFTER_SPACE: u32 = 12;
-
-/// Returns `true` if values of `width` bits may have `fraction_bits`.
-pub fn is_fraction(width: u32, fraction_bits: u32) -> bool {
-    6 <= fraction_bits && fraction_bits <= 30 && fraction_bits + 2 <= width
-}
