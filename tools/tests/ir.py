@@ -5,6 +5,7 @@ solver."""
 import json
 import pathlib
 import subprocess
+import tomllib
 import unittest
 from typing import Any
 
@@ -55,7 +56,15 @@ load i32, ptr %q, align 4 | %p = alloca i64, align 8; store i64 0, ptr %p, align
 load i32, ptr %s, align 4
 %c = icmp samesign ult i32 %x, %y; zext i1 %c to i32 | %c = icmp ult i32 %x, %y; zext i1 %c to i32
 %c = icmp ult i32 %x, %y; call void @llvm.assume(i1 %c); add i32 0, 0 | \
-%c = icmp eq i32 %x, %x; call void @llvm.assume(i1 %c); add i32 0, 0"""
+%c = icmp eq i32 %x, %x; call void @llvm.assume(i1 %c); add i32 0, 0
+%a = zext i32 %x to i64; %b = lshr i64 %a, 1099511627776; trunc i64 %b to i32 | \
+%a = zext i32 %x to i64; %b = lshr i64 %a, 63; trunc i64 %b to i32
+%p = getelementptr i8, ptr %t, i64 1; %c = icmp slt ptr %t, %p; \
+call void @llvm.assume(i1 %c); add i32 0, 0 | %p = getelementptr i8, ptr %t, i64 1; \
+%c = icmp ult ptr %t, %p; call void @llvm.assume(i1 %c); add i32 0, 0
+%p = getelementptr nusw [3 x i8], ptr %t, i64 -3074457345618258603; %i = ptrtoint ptr %p to i64; \
+trunc i64 %i to i32 | %p = getelementptr nusw [3 x i8], ptr %t, i64 3074457345618258602; \
+%i = ptrtoint ptr %p to i64; trunc i64 %i to i32"""
 
 # Prints the rows of which a goal can be met, or whose result can be poison.
 RUN = """
@@ -63,9 +72,12 @@ import json, sys, z3
 from arithmetic import Arithmetic
 from execution import Machine
 from ir import Module
+from memory import Slice
 from state import Goals
-from values import Number
+from values import Address, Number, constant
 
+# A text of as many bytes as there can be.
+TEXT = Slice(constant((1 << 63) - 1), 1, z3.Function("t", z3.BitVecSort(64), z3.BitVecSort(8)), True)
 HELPERS = '''
 define i32 @same(i32 %x) {
 start:
@@ -93,11 +105,11 @@ def is_undefined(row):
     *before, last = row.split("; ")
     lines = "\\n".join(it if it[-1] == ":" else f"  {it}".replace(" to label", "\\n to label")
                       for it in [*before, f"%r = {last}", "ret i32 %r"])
-    text = f"{HELPERS}define i32 @f(i32 %x, i32 %y) {{\\nstart:\\n{lines}\\n}}\\n"
+    text = f"{HELPERS}define i32 @f(i32 %x, i32 %y, ptr %t) {{\\nstart:\\n{lines}\\n}}\\n"
     arithmetic, goals = Arithmetic(), []
     machine = Machine(Module(text), arithmetic, Goals(lambda why, it: goals.append(z3.And(it))))
-    arguments = [Number(z3.BitVec(it, 32)) for it in "xy"]
-    for end in machine.run("@f", arguments, {}, []):
+    arguments = [*(Number(z3.BitVec(it, 32)) for it in "xy"), Address("t", constant(0))]
+    for end in machine.run("@f", arguments, {"t": TEXT}, []):
         goals.append(z3.And([*end.conditions, end.value.poison]))
     solver = z3.Solver()
     solver.add(z3.Or(goals), *arithmetic.facts)
@@ -205,6 +217,80 @@ def is_right(type_):
 print(json.dumps([it for it in ELEMENTS if is_right(it)]))
 """
 
+# Parses a text of `0.`, seven places that count, and others, of which it reads 65,536 again and
+# again; and one that reads them once.
+LOOP = """\
+%few = icmp ule i64 %n, 9; br i1 %few, label %end, label %some; some:; \
+%a = load i8, ptr %p, align 1; %other = icmp ne i8 %a, 48; \
+br i1 %other, label %end, label %point; point:; %q = getelementptr i8, ptr %p, i64 1; \
+%b = load i8, ptr %q, align 1; %none = icmp ne i8 %b, 46; \
+br i1 %none, label %end, label %turn; turn:; %i = phi i16 [ 0, %point ], [ %next, %more ]; \
+%j = zext i16 %i to i64; %k = add i64 %j, 9; %r = getelementptr i8, ptr %p, i64 %k; \
+%c = load i8, ptr %r, align 1; %d = sub i8 %c, 48; %letter = icmp ugt i8 %d, 9; \
+br i1 %letter, label %end, label %more; more:; %next = add i16 %i, 1; \
+%l = zext i16 %next to i64; %m = add i64 %l, 9; %last = icmp uge i64 %m, %n; \
+br i1 %last, label %end, label %turn; end:; ret i128 0"""
+STORE = """\
+%none = icmp eq i64 %n, 0; br i1 %none, label %end, label %some; some:; \
+store i8 1, ptr %p, align 1; br label %end; end:; ret i128 18446744073709551616"""
+ZERO = "store i8 48, ptr %p, align 1; ret i64 1"
+# Functions that parse or print, and why they are not proved: of all texts or values, of one that is
+# known, and of none, which the facts exclude.
+WRONG = [
+    ("parse all", LOOP, "a turn of a loop does not go on"),
+    ("parse all", LOOP.replace("i16", "i64"), "no error for another text"),
+    ("parse all", STORE, "undefined behavior: a store to a constant"),
+    ("parse one", STORE, "undefined behavior: a store to a constant"),
+    ("parse none", "ret i128 0", "no text is known for which it returns"),
+    ("print all", ZERO, "the sign is wrong"),
+    ("print all", ZERO.replace("i64 1", "i64 poison"), "a length that may be poison"),
+    ("print none", ZERO, "no value is known for which it returns"),
+]
+REASONS = """
+import json, parsing, printing, random, sys, z3
+from decimals import expected
+from ir import Module
+from proof import Refused, Unknown
+from values import Unsupported
+
+parsing.run_library = lambda _, case, given: (expected(*given.values()), {})
+
+def proof_of(kind, text):
+    lines = "\\n".join(it if it[-1] == ":" else f"  {it}" for it in text.split("; "))
+    of = printing if kind == "print" else parsing
+    row = next(it for it in of.ROWS if it.f == 6)
+    if kind == "print":
+        head, row = "i64 @f(i32 %x, ptr %p)", row._replace(symbol="f")
+    else:
+        head, row = "i128 @f(ptr %p, i64 %n)", row._replace(case=row.case._replace(symbol="f"))
+    module = Module(f"define {head} {{\\nstart:\\n{lines}\\n}}\\n")
+    return (of.Printing if kind == "print" else of.Parsing)(module, row, None)
+
+def reason(way, text):
+    kind, of = way.split()
+    proof = proof_of(kind, text)
+    proof.search = lambda: None
+    if of == "none":
+        proof.arithmetic.facts.append(z3.BoolVal(False))
+    try:
+        proof.judge(random.Random(1), True) if of == "one" else proof.run()
+    except (Refused, Unknown, Unsupported) as error:
+        return str(error).split(": the solver")[0]
+
+print(json.dumps([reason(*it) for it in json.load(sys.stdin)]))
+"""
+
+# Prints what the IR of an expression returns, in the build that is proved.
+BUILT = """
+import json, sys, tempfile
+from build import build
+from pathlib import Path
+wrapper = f'#[unsafe(no_mangle)] pub extern "C" fn asked() -> bool {{ {json.load(sys.stdin)} }}'
+with tempfile.TemporaryDirectory() as room:
+    ir = build(Path("../.."), Path(room), wrapper, False).ir
+print(json.dumps(ir.split("@asked()")[1].split("}")[0].split("ret ")[1].strip()))
+"""
+
 
 def told(script: str, given: object = None) -> Any:
     """Returns what a script with the files of the second proof prints."""
@@ -238,3 +324,16 @@ class Reader(unittest.TestCase):
 
     def test_only_a_room_is_stored_to(self) -> None:
         self.assertEqual(told(STORES), ["room"])
+
+    def test_why_parsing_and_printing_are_not_proved(self) -> None:
+        rows = [(way, text) for way, text, _ in WRONG]
+        for row, found in zip(WRONG, told(REASONS, rows), strict=True):
+            with self.subTest(row[:2]):
+                self.assertEqual(found, row[2])
+
+    def test_code_is_that_of_users(self) -> None:
+        """It may ask whether panics unwind, and for the name of its crate."""
+        manifest = tomllib.loads((TOOL / "../../Cargo.toml").read_text())
+        name = manifest["package"]["name"].replace("-", "_")
+        named = f'module_path!().starts_with("{name}::")'
+        self.assertEqual(told(BUILT, f'{named} && cfg!(panic = "unwind")'), "i1 true")
