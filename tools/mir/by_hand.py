@@ -1,16 +1,18 @@
-"""What files by hand have beside the erased ones: what `by_hand.txt` lists, of which each line was
-judged. So a user's call finds nothing of theirs in place of what is compared: rustc takes what is
+"""What files by hand have beside the erased ones: what `by_hand.txt` lists, in groups, each below a
+reason. So a user's call finds nothing of theirs in place of what is compared: rustc takes what is
 inherent before what is of a trait, a method by value before one by reference, and what a root
 declares before what it has by `*`.
 
 As rustc tells: which files and variables it reads, what has a body and a name, also within another,
 and what is `unsafe` or gives a symbol its name. As words, for what other targets have and what has
-no body: attributes, macros, other `impl`s, and what roots declare."""
+no body: attributes, macros and arms, other `impl`s, items, and imports of a root or by other names.
+"""
 
 import os
 import re
 import subprocess
 import tempfile
+from collections import Counter
 from collections.abc import Iterable, Iterator
 from pathlib import Path
 
@@ -18,7 +20,8 @@ from declared import words
 from packages import ENVIRONMENT
 from rust import PLACE
 
-KEPT = {*Path(__file__).with_name("by_hand.txt").read_text().splitlines()}
+LINES = Path(__file__).with_name("by_hand.txt").read_text().splitlines()
+KEPT = {it for it in LINES if it[0] != "#"}
 
 # What cargo checks, with what that depends on. The library for C never unwinds; the example has what
 # `record` writes for a user.
@@ -30,12 +33,17 @@ WARNING = re.compile(r"^(\S+?):\d+:\d+: warning: (.*)$", re.M)
 BODY = re.compile(r"^(?!alloc\d|[ /}]|$)(.*?)(?: =)?(?: \{| const .*;)?$", re.M)
 ERASED = re.compile(r"\w+ (?:font_\w+|generated)::")
 TEXT = re.compile(r"""(?!"[\w./]+")"(?:[^"\\]|\\.)*"|("[^"]*")|'(?:[^'\\]|\\.[^']*)'""")
-FORM = (
-    r"# (?:! )?\[ (?:inline|must_use|allow|warn|deny|diagnostic|path|doc =) [^\]]*\]|"
-    r"(# (?:! )?\[ [^\]]*\](?: # \[ [^\]]*\])*[^#;{(\[]*|\b(?:macro_rules ! \S+|\w+ ! (?=[\[({])|"
-    r"impl\b[^{]*(?:[<(,;=] \{|\{ (?:type [^;]*; )*\}))"
+# What words tell, but for attributes that change no code, and an `impl` that begins with what has a
+# body and a name, which rustc tells.
+PASSED = r"# (?:! )?\[ (?:inline|must_use|allow|warn|deny|diagnostic|path|doc =) [^\]]*\]"
+BEGUN = r"(?:# \[ [^\]]*\] |type [^{}]*; )*(?:pub )?(?:(?:const )?fn|const [A-Z])"
+LISTED = (
+    r"# (?:! )?\[ [^\]]*\](?: # \[ [^\]]*\])*[^#;{(\[]*",
+    r"\bmacro_rules ! \S+|\b\w+ ! (?=[\[({])|[)\]}] = >",
+    rf"\bimpl\b[^{{]*{{(?! {BEGUN})(?: }})?",
+    r"(?:pub )?\b(?:mod|type|struct|enum|union|trait|extern)\b[^;{]*[;{]",
 )
-ITEM = r"|(?:pub )?\b(?:use|mod|type|struct|enum|union|trait|extern)\b[^;{]*[;{]"
+IMPORT, OTHER_NAME = r"(?:pub )?\buse\b[^;]*;", r"\buse\b[^;]*\bas\b[^;]*;"
 
 
 def told(root: Path, erased: set[str]) -> Iterator[str]:
@@ -56,7 +64,8 @@ def told(root: Path, erased: set[str]) -> Iterator[str]:
             for path in Path(room).glob("*/*/*.d"):
                 crate, text = path.name.split("-")[0], path.read_text()
                 where = root / ("c" if crate == "font_types" else "")
-                yield from re.findall("^# env-dep:.*", text, re.M)
+                asked = re.findall("^# env-dep:(.*)", text, re.M)
+                yield from (f"{crate} asks for {it}" for it in asked)
                 for file in re.findall(r"^(\S+):$", text, re.M):
                     it = str((where / file).resolve()).removeprefix(f"{root}/")
                     if it not in erased and crate != "dump":
@@ -92,8 +101,11 @@ def worded(root: Path) -> Iterator[str]:
         if "/host/" not in path:
             text = words((root / path).read_text(), "crate")
             text = TEXT.sub(lambda it: it[1] or '""', text)
-            form = FORM + ITEM * path.endswith(("lib.rs", "main.rs")) + ")"
-            yield from (f"{path}: {it.strip()}" for it in re.findall(form, text) if it)
+            last = IMPORT if path.endswith(("lib.rs", "main.rs")) else OTHER_NAME
+            found = re.findall(f"{PASSED}|({'|'.join([*LISTED, last])})", text)
+            for it, count in Counter(map(str.strip, found)).items():
+                if it:
+                    yield f"{path}: {it}" + f" ({count} times)" * (count > 1)
 
 
 def faults(root: Path, erased: Iterable[str]) -> Iterator[str]:

@@ -173,6 +173,21 @@ WORDS = [
         "impl Law for Fixed < {",
     ),
     ("src/traits.rs", "    fn as_ref", "    #[link_name]\n    fn as_ref", "# [ link_name ]"),
+    ("src/traits.rs", AFTER, f"use crate::Tag as Predefined;\n{AFTER}", "use Tag as Predefined ;"),
+    ("src/traits.rs", AFTER, f"mod of {{\ntype Predefined = u8;\n}}\n{AFTER}", "type Predefined ="),
+    ("src/traits.rs", AFTER, f"impl Law for [u8; 1 + {{ 1 }}] {{}}\n{AFTER}", "[ u8 ; 1 + {"),
+    (
+        "src/traits.rs",
+        AFTER,
+        f"impl Law for [u8; {{ #[allow(unused)] let x = 1; x }}] {{}}\n{AFTER}",
+        "[ u8 ; {",
+    ),
+    (
+        "src/record.rs",
+        "rules! record {",
+        "rules! record {\n($($it:tt)*) => { $($it)* };",
+        "(2 times)",
+    ),
 ]
 TOLD = [
     ("src/traits.rs", AFTER, f"mod late;\n{AFTER}", "font_types_proved reads src/traits/late.rs"),
@@ -203,7 +218,7 @@ TOLD = [
         "    #[unsafe(no_mangle)]\n    fn extend",
         "`no_mangle` method",
     ),
-    ("src/traits.rs", "let mut sum", 'option_env!("A");\nlet mut sum', "# env-dep:A"),
+    ("src/traits.rs", "let mut sum", 'option_env!("A");\nlet mut sum', "asks for A"),
     ("src/record.rs", "    fn read_f", "    fn len(self) {}\n\n    fn read_f", "RecordField::len("),
     (
         "src/record.rs",
