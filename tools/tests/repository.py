@@ -6,6 +6,7 @@ import re
 import subprocess
 import sys
 import unittest
+from collections.abc import Iterator
 
 ROOT = pathlib.Path(__file__).resolve().parents[2]
 sys.path.append(str(ROOT / "tools"))
@@ -100,6 +101,29 @@ def quoted(page: str, others: str) -> list[str]:
     return [it for it in texts if re.fullmatch(rf"[A-Za-z0-9_{others}]+", it)]
 
 
+def formats() -> dict[str, str]:
+    """Returns the alias of each fixed-point format, and what names the format."""
+    found = "".join(text(path) for path in of("src/generated/font_fixed/", ".rs"))
+    aliases = re.findall(r"^pub type (\w+) = FixedI(\d+)<(\d+)>;$", found, re.M)
+    return {
+        it: rf"\b{it}\b|[`\"]{it.lower()}\b|(?<![\d.]){int(width) - int(bits)}\.{bits}(?![\d.])"
+        for it, width, bits in aliases
+    }
+
+
+def lists(shown: str, is_page: bool) -> Iterator[str]:
+    """Yields what is in brackets, or in a row of a table."""
+    if is_page:
+        yield from (line for line in shown.splitlines() if line[:1] == "|")
+        shown = re.sub(r"^\|.*", "", shown, flags=re.M)
+    starts = []
+    for at, letter in enumerate(shown):
+        if letter in "([{":
+            starts.append(at)
+        elif letter in ")]}" and starts:
+            yield shown[starts.pop() : at + 1]
+
+
 class Pages(unittest.TestCase):
     def test_names_paths_and_links(self) -> None:
         texts = map(text, of("", ".rt", ".antt", ".rs", ".c", ".h", ".txt", ".py"))
@@ -159,6 +183,19 @@ class Pages(unittest.TestCase):
         self.assertEqual({alias for alias, _ in aliases}, cells.keys())
         for alias, name in aliases:
             self.assertRegex(cells[alias], rf"`\W*{name}\b", alias)
+
+    def test_lists_of_formats(self) -> None:
+        """A list that has all formats but one is not whole, with its texts or without them. Of those
+        of `font-types`, `compare/compared` sees each function."""
+        known, wrong = formats(), []
+        for path in of("", ".rs", ".rt", ".antt", ".py", ".h", ".c", ".cpp", ".md"):
+            for it in lists(text(path), path.endswith(".md")) if path[:8] != "compare/" else ():
+                for shown in it, re.sub(r'"[^"\n]*"', '""', it):
+                    left_out = [name for name in known if not re.search(known[name], shown)]
+                    if len(left_out) == 1:
+                        wrong.append(f"{path}: {left_out[0]} is not in {' '.join(it.split())[:60]}")
+        self.assertEqual(wrong, [])
+        self.assertGreater(len(known), 2)
 
     def test_crates_with_definitions(self) -> None:
         """EVIDENCE has a row for each, but for `callers` and `font_fixed2`."""
