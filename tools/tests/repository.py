@@ -11,6 +11,7 @@ from collections.abc import Iterator
 ROOT = pathlib.Path(__file__).resolve().parents[2]
 sys.path.append(str(ROOT / "tools"))
 import version
+from requirements import ATTRIBUTES, is_compiled
 
 
 def run(*command: str) -> list[str]:
@@ -262,6 +263,27 @@ class Package(unittest.TestCase):
         # What tests of headers use and a constant are elsewhere.
         missing = [name for name in names if f"[`{name}`]" not in page]
         self.assertEqual(missing, ["SampleHeader", "TTC_HEADER_TAG"])
+
+
+class Tests(unittest.TestCase):
+    def test_none_is_passed_over(self) -> None:
+        """A file of tests has no comment in brackets, no early return, and no condition but those
+        known; what a debug build passes over, `make rust` runs in a release build; and a module or
+        a call names what is no test."""
+        rust = of(("tests/", "compare/tests/"), ".rs") + of("crates/", ".rt")
+        files = {path: text(path) for path in rust if path.endswith(".rs") or "/src/tests" in path}
+        skipped = r"/\*|^ *return;|^ *#!?\[(?:cfg|ignore).*"
+        wrong = [path for path in files if not is_compiled(path)]
+        for path, shown in files.items():
+            found = map(str.strip, re.findall(skipped, shown, re.M))
+            wrong += [f"{path}: {it}" for it in found if not re.fullmatch(ATTRIBUTES, it)]
+            if "debug_assertions, ignore" in shown:
+                runs = f"--release.* --test {pathlib.Path(path).stem}\\b"
+                wrong += [] if re.search(runs, text("Makefile")) else [path]
+        for path in of("tools/tests/", ".py"):
+            names = re.findall(r"^    def (?!test_|setUp\b|__)(\w+)\(self", text(path), re.M)
+            wrong += [f"{path}: {name}" for name in names if text(path).count(name) < 2]
+        self.assertEqual(wrong, [])
 
 
 class Items(unittest.TestCase):
