@@ -13,10 +13,9 @@
  *       in turn     fty_take_{u8,i8,u16,i16,u24,i24,u32,i32,u64,i64,uint}  fty_take
  *       at pointers fty_peek_{u16,i16,u24,i24,u32,i32,u64,i64}
  *                   fty_poke_{u16,u24,u32,u64}
- *     written       fty_write_{u8,i8,u16,i16,u24,i24,u32,i32,u64,i64,uint,bytes}
- *                   fty_write_offset{16,24,32}
- *       in turn     fty_put_{u8,i8,u16,i16,u24,i24,u32,i32,u64,i64,bytes,zeros_to_4}
- *                   fty_reserve  fty_span_from
+ *     written       fty_write_{u8,i8,u16,i16,u24,u32,i32,i64,uint,bytes,offset16,offset24,offset32}
+ *       in turn     fty_put_{u8,i8,u16,i16,u24,u32,i32,i64,bytes,zeros_to_4}  fty_reserve
+ *                   fty_span_from
  *     rounding      fty_checked_round_{i16,i32,i64}  fty_f26dot6_{floor,ceil,round}
  *                   fty_fixed_{floor,ceil,round,round_away}
  *     conversions   fty_fixed_to_{i32,f26dot6,f2dot14}  fty_f26dot6_to_i32  fty_fixed_from_i32
@@ -729,16 +728,6 @@ FTY_API_INLINE fty_status fty_put_u24(fty_span *rest, uint32_t value) FTY_API_NO
     return FTY_OK;
 }
 
-/** Writes an int24. Fails by FTY_OUT_OF_BOUNDS, FTY_OUT_OF_RANGE, and the span stays. */
-FTY_API_INLINE fty_status fty_put_i24(fty_span *rest, int32_t value) FTY_API_NOEXCEPT {
-    if (rest->length < 3)
-        return FTY_OUT_OF_BOUNDS;
-    if (value < -0x800000 || value > 0x7FFFFF)
-        return FTY_OUT_OF_RANGE;
-    fty_poke_u24(fty_api_room(rest, 3), FTY_API_AS(uint32_t, value));
-    return FTY_OK;
-}
-
 /** Writes a uint32. Fails by FTY_OUT_OF_BOUNDS, and the span stays. */
 FTY_API_INLINE fty_status fty_put_u32(fty_span *rest, uint32_t value) FTY_API_NOEXCEPT {
     if (rest->length < 4)
@@ -752,17 +741,12 @@ FTY_API_INLINE fty_status fty_put_i32(fty_span *rest, int32_t value) FTY_API_NOE
     return fty_put_u32(rest, FTY_API_AS(uint32_t, value));
 }
 
-/** Writes an integer of 64 bits, unsigned. Fails by FTY_OUT_OF_BOUNDS, and the span stays. */
-FTY_API_INLINE fty_status fty_put_u64(fty_span *rest, uint64_t value) FTY_API_NOEXCEPT {
-    if (rest->length < 8)
-        return FTY_OUT_OF_BOUNDS;
-    fty_poke_u64(fty_api_room(rest, 8), value);
-    return FTY_OK;
-}
-
 /** Writes an int64. Fails by FTY_OUT_OF_BOUNDS, and the span stays. */
 FTY_API_INLINE fty_status fty_put_i64(fty_span *rest, int64_t value) FTY_API_NOEXCEPT {
-    return fty_put_u64(rest, FTY_API_AS(uint64_t, value));
+    if (rest->length < 8)
+        return FTY_OUT_OF_BOUNDS;
+    fty_poke_u64(fty_api_room(rest, 8), FTY_API_AS(uint64_t, value));
+    return FTY_OK;
 }
 
 /**
@@ -818,11 +802,6 @@ FTY_API_INLINE fty_status fty_write_u24(fty_span span, uint32_t value) FTY_API_N
     return fty_put_u24(&span, value);
 }
 
-/** fty_put_i24 at the start of a span, which stays. */
-FTY_API_INLINE fty_status fty_write_i24(fty_span span, int32_t value) FTY_API_NOEXCEPT {
-    return fty_put_i24(&span, value);
-}
-
 /** fty_put_u32 at the start of a span, which stays. */
 FTY_API_INLINE fty_status fty_write_u32(fty_span span, uint32_t value) FTY_API_NOEXCEPT {
     return fty_put_u32(&span, value);
@@ -831,11 +810,6 @@ FTY_API_INLINE fty_status fty_write_u32(fty_span span, uint32_t value) FTY_API_N
 /** fty_put_i32 at the start of a span, which stays. */
 FTY_API_INLINE fty_status fty_write_i32(fty_span span, int32_t value) FTY_API_NOEXCEPT {
     return fty_put_i32(&span, value);
-}
-
-/** fty_put_u64 at the start of a span, which stays. */
-FTY_API_INLINE fty_status fty_write_u64(fty_span span, uint64_t value) FTY_API_NOEXCEPT {
-    return fty_put_u64(&span, value);
 }
 
 /** fty_put_i64 at the start of a span, which stays. */

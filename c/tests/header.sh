@@ -3,18 +3,10 @@
 # The names that it declares, the libraries export and the table calls; and those that it has in C.
 # Two are both: table.c declares these exports itself.
 text=$(c++ -std=c++11 -x c++ -E -P include/font_types.h | tr '\n' ' ')
-typed=$(grep -oE '[a-z0-9_]+ fty_[a-z0-9_]+\([^()]*\) noexcept *[;{]' <<<"$text" |
-    grep -v ' fty_api_.*{$')
+typed=$(sed 's/\*fty_/fty_/g' <<<"$text" |
+    grep -oE '[a-z0-9_]+ fty_[a-z0-9_]+\([^()]*\) noexcept *[;{]' | grep -v ' fty_api_.*{$')
 functions=$(sed 's/^[^ ]* //' <<<"$typed")
 names() { grep -o '\bfty_[a-z0-9_]*' | sort -u; }
-# Whether two lists have the same names. Prints what only the first (<) or the second (>) has.
-same() {
-    local differ
-    if ! differ=$(diff <(echo "$2") <(echo "$4")); then
-        printf '< only %s, > only %s:\n%s\n' "$1" "$3" "$(grep '^[<>]' <<<"$differ")"
-        false
-    fi
-}
 declared=$(grep ';$' <<<"$functions" | sed 's/(.*//' | names)
 inline=$(grep '{$' <<<"$functions" | sed 's/(.*//' | names)
 both=$'fty_f26dot6_mul\nfty_fixed_mul'
@@ -22,12 +14,12 @@ is "$(comm -12 <(echo "$both") <(echo "$inline"))" "$both"
 exports=$(sort -u <<<"$declared"$'\n'"$both")
 declares='in font_types.h'
 archived=$(nm --defined-only "$archive" 2>/dev/null | grep ' T ' | names)
-same 'in the archive' "$archived" "$declares" "$exports"
+is "$archived" "$exports" 'in the archive' "$declares"
 exported=$(nm -D --defined-only "$root/lib/libfont_types.so" | grep -v " A FONT_TYPES_$version\$")
 fails grep -v "@@FONT_TYPES_$version\$" <<<"$exported"
-same 'in the library' "$(names <<<"$exported")" "$declares" "$exports"
+is "$(names <<<"$exported")" "$exports" 'in the library' "$declares"
 cc -std=c99 -Iinclude -c tests/table.c -o "$work/table.o"
-same 'called by table.c' "$(nm -u "$work/table.o" | names)" "$declares" "$exports"
+is "$(nm -u "$work/table.o" | names)" "$exports" 'called by table.c' "$declares"
 # The head of the header lists each, as in C or as a call of the library.
 listed() {
     eval "printf '%s\n' $(sed -n "/^ \* $1/,/^ \* $2/p" include/font_types.h |
@@ -36,11 +28,10 @@ listed() {
 calling=$(printf '%s\n' fty_{fixed,f2dot14,f26dot6}_{parse,format,format_padded} \
     fty_{format,format_padded,tag_to_text,delta_sum,delta_set_sum} | sort)
 public=$(grep -v '^fty_api_' <<<"$declared")
-head='at the head of font_types.h'
-same "$head, \"In C\"" "$(listed 'In C, in' 'Calls of')" \
-    "$declares" "$(comm -23 <(echo "$inline") <(echo "$calling"))"
-same "$head, \"Calls\"" "$(listed 'Calls of' 'Each function')" \
-    "$declares" "$(sort <<<"$public"$'\n'"$calling")"
+is "$(listed 'In C, in' 'Calls of')" "$(comm -23 <(echo "$inline") <(echo "$calling"))" \
+    'at the head, "In C"' "$declares"
+is "$(listed 'Calls of' 'Each function')" "$(sort <<<"$public"$'\n'"$calling")" \
+    'at the head, "Calls"' "$declares"
 # Their types are those of the Rust that is compiled. An enum is returned as 32 bits.
 in_c=$(grep -E ";\$|($(paste -sd '|' <<<"$both"))\(" <<<"$typed" | sed -E '
     s/ noexcept *[;{]//; s/\(void\)/()/; s/ *\*[a-z_]+/*/g; s/ [a-z_]+([,)])/\1/g
@@ -50,71 +41,66 @@ in_rust=$(cat src/generated/font_c/*.rs | tr -d '\n' | grep -oE '"C" fn fty_[^{]
     s/\*const (\w+)/const \1*/g; s/[*&]mut (\w+)/\1*/g; s/&(\w+)/const \1*/g
     s/Font(Fraction|Matrix|Pad|Point)/fty_\L\1/g; s/\bu(8|16|32|64)\b/uint\1_t/g
     s/\bi(8|16|32|64)\b/int\1_t/g; s/usize/size_t/g; s/([(,]) +/\1/g' | sort)
-diff <(echo "$in_c") <(echo "$in_rust")
+is "$in_c" "$in_rust" "$declares" 'in the Rust'
 
 # C++14 evaluates all that neither copies nor calls.
 constants=$(c++ -std=c++14 -x c++ -E -P include/font_types.h | tr '\n' ' ' |
     grep -oE '\bconstexpr [^;{}]*\) noexcept *\{' | grep -oE '\bfty_[a-z0-9_]+\(' |
     grep -v '^fty_api_' | names)
 run_only=$(echo "$calling"$'\n'fty_{put,write}_bytes | tr ' ' '\n' | sort)
-same 'constexpr in font_types.h' "$constants" \
-    'in C in font_types.h' "$(comm -23 <(echo "$inline") <(echo "$run_only"))"
+is "$constants" "$(comm -23 <(echo "$inline") <(echo "$run_only"))" constexpr 'in C'
 
 # Each function is noexcept, and each but fty_matrix_images and fty_poke_* warns of a result that
 # is ignored.
-same 'called in font_types.h' "$(grep -o '\bfty_[a-z0-9_]*(' <<<"$text" | grep -v '^fty_api_' | names)" \
-    "$declares" "$(sort -u <<<"$public"$'\n'"$inline")"
-# A call of each, by a function of the same parameters.
+is "$(grep -o '\bfty_[a-z0-9_]*(' <<<"$text" | grep -v '^fty_api_' | names)" \
+    "$(sort -u <<<"$public"$'\n'"$inline")" "$declares" noexcept
+# Calls of functions, each by a function of the same parameters: as they are or, wrong, with each
+# two arguments of different types exchanged.
 calls() {
     echo '#include "font_types.h"'
-    sed -E 's/^.* (fty_.*)\((.*)\).*/\1 \2/; s/ void$//' <<<"$typed" |
-        awk -v form="$1" '{ name = $1; sub(/[^ ]* ?/, ""); given = $0
-            gsub(/[^,]*[ *]/, "", given); printf form "\n", NR, $0, name "(" given ")" }'
-}
-calls 'void f%d(%s) { %s; }' >"$work/calls.c"
-fails cc -Iinclude -Werror -c -o "$work/calls.o" "$work/calls.c"
-is "$(grep -c 'unused-result' "$work/log")" "$(($(wc -l <<<"$typed") - 5))"
-calls 'void f%d(%s) { static_assert(noexcept(%s), ""); }' >"$work/calls.cpp"
-c++ -std=c++11 -w -Iinclude -fsyntax-only "$work/calls.cpp"
-
-# No two arguments of a call can be exchanged, if their types differ: with -Werror alone, compilers
-# refuse each call with two of them exchanged, and no call as it is. Of one type are two integers
-# only where they are of one kind, and where the result is the same in either order.
-orders() {
-    echo '#include "font_types.h"'
-    grep -v ' fty_api_' <<<"$typed" | sed -E 's/^([^ ]*) (.*)\((.*)\).*/\1,\2,\3/' | awk -F' *, *' '
-        function call(i, j, given, k) {
-            for (k = 3; k <= NF; k++)
+    sed -E 's/\(void\)/()/; s/^([^ ]*) (.*)\((.*)\).*/\1,\2,\3/' |
+        awk -F', *' -v form="$1" -v wrong="${2-}" '
+        function call(i, j, given, all) {
+            for (k = 3; k <= NF; k++) {
                 given = given (k > 3 ? ", " : "") name[k == i ? j : k == j ? i : k]
-            printf "%s f%d(%s) { return %s(%s); }\n", $1, ++n, all, $2, given
-        }
-        {
-            all = ""
+                all = all (k > 3 ? ", " : "") $k
+            }
+            printf form "\n", $1, ++n, all, $2 "(" given ")"
+        } {
             for (i = 3; i <= NF; i++) {
                 type[i] = name[i] = $i
                 sub(/[a-z_]+$/, "", type[i])
                 sub(/.*[ *]/, "", name[i])
-                all = all (i > 3 ? ", " : "") $i
-            }
-            for (i = 3; i < NF; i++)
-                for (j = i + 1; j <= NF; j++)
+                for (j = 3; wrong && j < i; j++)
                     if (type[i] != type[j])
-                        wrong ? call(i, j) : call()
-                    else if (integers && type[i] ~ /^(u?int[0-9]*_t|size_t|int) $/)
-                        print $2
-        }' "$@"
+                        call(i, j)
+            }
+            if (!wrong)
+                call()
+        }'
 }
-same 'takes two integers' "$(orders integers=1 - | names)" 'of one kind' "$(printf '%s\n' fty_items \
-    fty_fixed_{add,sub,mul,div,mul_div} fty_f26dot6_{mul,div} fty_mul_div_i64 | sort)"
-orders - >"$work/right.c"
-orders wrong=1 - >"$work/wrong.c"
+calls 'void /* %s */ f%d(%s) { %s; }' <<<"$typed" >"$work/calls.c"
+fails cc -Iinclude -Werror -c -o "$work/calls.o" "$work/calls.c"
+is "$(grep -c 'unused-result' "$work/log")" "$(($(wc -l <<<"$typed") - 5))"
+calls 'void /* %s */ f%d(%s) { static_assert(noexcept(%s), ""); }' <<<"$typed" >"$work/calls.cpp"
+c++ -std=c++11 -w -Iinclude -fsyntax-only "$work/calls.cpp"
+
+# With -Werror alone, compilers refuse each exchange, and no call as it is. Of one type are two
+# integers only where they are of one kind, and where the result is the same in either order.
+of_two=$(grep -E '((u?int[0-9]+|size)_t) [a-z_]+,.* \1 [a-z_]+[,)]' <<<"$functions" | sed 's/(.*//')
+of_one_kind=$(printf '%s\n' fty_items fty_mul_div_i64 fty_fixed_{add,sub,mul,div,mul_div} \
+    fty_f26dot6_{mul,div} | sort)
+is "$(grep -v '^fty_api_' <<<"$of_two" | sort)" "$of_one_kind" 'takes two integers' 'of one kind'
+given=$(grep ', ' <<<"$typed" | grep -v ' fty_api_')
+calls '%s f%d(%s) { return %s; }' <<<"$given" >"$work/right.c"
+calls '%s f%d(%s) { return %s; }' wrong <<<"$given" >"$work/wrong.c"
 [[ -n ${BUILT-} ]] || for compiler in 'gcc -std=c99' 'gcc -std=c11' 'clang -ferror-limit=0' \
     'clang-22 -ferror-limit=0' 'g++ -x c++' 'clang++ -ferror-limit=0 -x c++'; do
     command -v "${compiler%% *}" >/dev/null || { echo "left out: calls by $compiler"; continue; }
     $compiler -Werror -Iinclude -fsyntax-only "$work/right.c"
     fails $compiler -Werror -Iinclude -fsyntax-only "$work/wrong.c"
     refused=$(grep -oE 'wrong\.c:[0-9]+:[0-9]+: error' "$work/log" | cut -d : -f 2 | sort -nu)
-    same "refused by $compiler" "$refused" 'in wrong.c' "$(seq 2 "$(wc -l <"$work/wrong.c")")"
+    is "$refused" "$(seq 2 "$(wc -l <"$work/wrong.c")")" "refused by $compiler" 'in wrong.c'
 done
 
 # A guard; FTY_TAG of any expressions; and no other macro that is left.
@@ -125,9 +111,9 @@ static_assert(FTY_TAG(true ? 1 : 2, 3, 4, 5) == 0x01030405, "");
 static_assert(FTY_TAG(-1, -2, -3, -4) == 0xFFFEFDFC && FTY_TAG(1, 2, 3, 4) / 2 == 0x00810182, "");
 CPP
 macros=$(cc -E -dM include/font_types.h | grep -oE '^#define (FONT|FTY)_[A-Z_0-9]*' | sort)
-of_formats=$(printf 'FTY_%s\n' FRACTION FIXED F{2DOT14,2DOT30,26DOT6,48DOT16,4DOT12,6DOT10})
-same 'a macro' "$(sed 's/#define //' <<<"$macros")" 'expected' \
-    "$(sort <<<"$of_formats"$'\nFONT_TYPES_H\nFTY_PAD_INIT\nFTY_TAG\nFTY_VERSION\nFTY_VERSION_NUMBER')"
+left=$(printf '%s\n' FONT_TYPES_H FTY_{FRACTION,FIXED,PAD_INIT,TAG,VERSION,VERSION_NUMBER} \
+    FTY_F{2DOT14,2DOT30,26DOT6,48DOT16,4DOT12,6DOT10})
+is "$(sed 's/#define //' <<<"$macros")" "$(sort <<<"$left")"
 
 # What each returns and writes for every argument, and that nothing is undefined.
 solver=

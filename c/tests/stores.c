@@ -39,7 +39,8 @@ static void parse_and_format(void) {
     results += fty_parse_i16(text, length, f, (int16_t *)place(2));
     results += fty_parse_i32(text, length, f, (int32_t *)place(4));
     results += fty_parse_i64(text, length, f, (int64_t *)place(8));
-    const fty_buffer out = {(char *)place(40), any() % 40}, padded = {(char *)place(70), any() % 70};
+    const fty_buffer out = {(char *)place(40), any() % 40};
+    const fty_buffer padded = {(char *)place(70), any() % 70};
     results += fty_format(bits, f, out, (size_t *)place(8));
     results += fty_format_padded(bits, f, &pad, padded, (size_t *)place(8));
 }

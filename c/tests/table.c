@@ -79,17 +79,16 @@ typedef struct result parser(const char *, size_t, uint32_t);
 
 /* What is written is at most `room` bytes of this, after which none is changed. */
 static char out[BUFFER];
-static fty_buffer buffer_of(size_t room) {
+static fty_buffer to(size_t room) {
     const fty_buffer buffer = {out, room};
     return buffer;
 }
 
 RESULT(formatted, size_t, (int64_t bits, uint32_t f, size_t room),
-       fty_format(bits, FTY_FRACTION(f), buffer_of(room), &place))
+       fty_format(bits, FTY_FRACTION(f), to(room), &place))
 RESULT(padded, size_t, (int64_t bits, uint32_t f, const fty_pad *pad, size_t room),
-       fty_format_padded(bits, FTY_FRACTION(f), pad, buffer_of(room), &place))
-RESULT(tag_text, size_t, (uint32_t tag, size_t room),
-       fty_tag_to_text(tag, buffer_of(room), &place))
+       fty_format_padded(bits, FTY_FRACTION(f), pad, to(room), &place))
+RESULT(tag_text, size_t, (uint32_t tag, size_t room), fty_tag_to_text(tag, to(room), &place))
 
 /* Checks a text that was written to `out`, and the error with too little room. */
 static void check_written(const char *table, size_t row, struct result found, const char *text) {
@@ -170,10 +169,10 @@ static const struct {
         size_t length = KEPT;                                                                  \
         check(#FORMAT, 0, fty_##FORMAT##_parse("1.5", 3, &bits), FTY_OK);                      \
         check(#FORMAT, 1, bits, BITS);                                                         \
-        check(#FORMAT, 2, fty_##FORMAT##_format(BITS, buffer_of(BUFFER), &length), FTY_OK);    \
+        check(#FORMAT, 2, fty_##FORMAT##_format(BITS, to(BUFFER), &length), FTY_OK);           \
         check(#FORMAT, 3, length == 3 && memcmp(out, "1.5", length) == 0, 1);                  \
-        check(#FORMAT, 4,                                                                      \
-              fty_##FORMAT##_format_padded(BITS, &named, buffer_of(BUFFER), &length), FTY_OK); \
+        check(#FORMAT, 4, fty_##FORMAT##_format_padded(BITS, &named, to(BUFFER), &length),     \
+              FTY_OK);                                                                         \
         check(#FORMAT, 5, length == 6 && memcmp(out, "+1.5**", length) == 0, 1);               \
         memset(out, KEPT, sizeof out);                                                         \
     } while (0)
@@ -315,40 +314,32 @@ static void check_matrices(void) {
 
 /* ---- sums of deltas ---- */
 
-static fty_numbers numbers_of(const int32_t *first, size_t count) {
+static fty_numbers of(const int32_t *first, size_t count) {
     const fty_numbers numbers = {first, count};
     return numbers;
 }
 
-static fty_view view_of(const uint8_t *bytes, size_t length) {
-    const fty_view view = {bytes, length};
+static fty_view bytes(const void *first, size_t length) {
+    const fty_view view = {(const uint8_t *)first, length};
     return view;
 }
 
-RESULT(sum_of_deltas, int64_t,
-       (const int32_t *scalars, size_t scalar_count, const int32_t *deltas, size_t delta_count),
-       fty_delta_sum(numbers_of(scalars, scalar_count), numbers_of(deltas, delta_count), &place))
-RESULT(sum_of_set, int64_t,
-       (const int32_t *scalars, size_t count, const uint8_t *set, size_t length, int word_count),
-       fty_delta_set_sum(numbers_of(scalars, count), view_of(set, length), (uint16_t)word_count,
-                         &place))
+RESULT(sum_of_deltas, int64_t, (fty_numbers scalars, fty_numbers deltas),
+       fty_delta_sum(scalars, deltas, &place))
+RESULT(sum_of_set, int64_t, (fty_numbers scalars, fty_view set, int word_count),
+       fty_delta_set_sum(scalars, set, (uint16_t)word_count, &place))
 
-/* Font units that are moved in place; KEPT if they stay because the call fails. */
-static struct result moved_i16(int16_t base, int64_t delta) {
-    struct result result = {FTY_OK, 0};
-    int16_t units = base;
-    result.status = fty_checked_add_delta_i16(delta, &units);
-    result.value = result.status != FTY_OK && units == base ? (int64_t)KEPT : units;
-    return result;
-}
-
-static struct result moved_u16(uint16_t base, int64_t delta) {
-    struct result result = {FTY_OK, 0};
-    uint16_t units = base;
-    result.status = fty_checked_add_delta_u16(delta, &units);
-    result.value = result.status != FTY_OK && units == base ? (int64_t)KEPT : units;
-    return result;
-}
+/* Font units that are moved in place: KEPT if the call fails and they stay. */
+#define MOVED(NAME, UNITS)                                                                     \
+    static struct result moved_##NAME(UNITS base, int64_t delta) {                             \
+        UNITS units = base;                                                                    \
+        struct result result = {fty_checked_add_delta_##NAME(delta, &units), KEPT};            \
+        if (result.status == FTY_OK || units != base)                                          \
+            result.value = units;                                                              \
+        return result;                                                                         \
+    }
+MOVED(i16, int16_t)
+MOVED(u16, uint16_t)
 
 /* Delta sets: the number of words, the bytes, and the scalars. */
 static const struct {
@@ -380,23 +371,24 @@ static const struct {
 static void check_sums(void) {
     const int32_t scalars[] = {98304, INT32_MIN, INT32_MIN, 1};
     const int32_t deltas[] = {100, INT32_MIN, INT32_MIN, -9830401};
-    check_result("sums", 0, sum_of_deltas(scalars, 2, deltas, 2), FTY_OK,
+    check_result("sums", 0, sum_of_deltas(of(scalars, 2), of(deltas, 2)), FTY_OK,
                  (INT64_C(1) << 62) + 9830400);
-    check_result("sums", 1, sum_of_deltas(scalars, 2, deltas, 1), FTY_COUNT_MISMATCH, 0);
-    check_result("sums", 2, sum_of_deltas(scalars, 1, deltas, 2), FTY_COUNT_MISMATCH, 0);
-    check_result("sums", 3, sum_of_deltas(scalars, 3, deltas, 3), FTY_OUT_OF_RANGE, 0);
-    check_result("sums", 4, sum_of_deltas(scalars, 4, deltas, 4), FTY_OK, INT64_MAX);
+    check_result("sums", 1, sum_of_deltas(of(scalars, 2), of(deltas, 1)), FTY_COUNT_MISMATCH, 0);
+    check_result("sums", 2, sum_of_deltas(of(scalars, 1), of(deltas, 2)), FTY_COUNT_MISMATCH, 0);
+    check_result("sums", 3, sum_of_deltas(of(scalars, 3), of(deltas, 3)), FTY_OUT_OF_RANGE, 0);
+    check_result("sums", 4, sum_of_deltas(of(scalars, 4), of(deltas, 4)), FTY_OK, INT64_MAX);
     for (size_t i = 0; i < COUNT(sets); i++)
-        check_result("sets", i, sum_of_set(sets[i].scalars, sets[i].count,
-                                           (const uint8_t *)sets[i].set, sets[i].length,
+        check_result("sets", i, sum_of_set(of(sets[i].scalars, sets[i].count),
+                                           bytes(sets[i].set, sets[i].length),
                                            sets[i].word_count), sets[i].status, sets[i].sum);
     /* As many scalars as a font can have, and one more; of two errors, the first. */
     static const int32_t many[TOO_MANY_SCALARS] = {0};
     static const uint8_t set[TOO_MANY_SCALARS] = {0};
     const size_t most = TOO_MANY_SCALARS - 1;
-    check_result("many scalars", 0, sum_of_set(many, most, set, most, 0), FTY_OK, 0);
-    check_result("many scalars", 1, sum_of_set(many, most + 1, set, most, 1), FTY_TOO_MANY, 0);
-    check_result("many deltas", 0, sum_of_deltas(many, most + 1, many, most + 1), FTY_OK, 0);
+    check_result("many scalars", 0, sum_of_set(of(many, most), bytes(set, most), 0), FTY_OK, 0);
+    const fty_numbers more = of(many, most + 1);
+    check_result("many scalars", 1, sum_of_set(more, bytes(set, most), 1), FTY_TOO_MANY, 0);
+    check_result("many deltas", 0, sum_of_deltas(more, more), FTY_OK, 0);
     check_result("signed", 0, moved_i16(32767, 32767), FTY_OK, 32767);
     check_result("signed", 1, moved_i16(32767, 32768), FTY_OUT_OF_RANGE, 0);
     check_result("signed", 2, moved_i16(-32768, -32768), FTY_OK, -32768);
@@ -414,11 +406,12 @@ static void check_lengths(void) {
     static const uint8_t set[0x10000] = {0};
     for (size_t i = 0; i < COUNT(numbers) * COUNT(numbers); i++) {
         const uint16_t count = numbers[i % COUNT(numbers)], words = numbers[i / COUNT(numbers)];
-        const size_t length = fty_delta_set_length(numbers_of(scalars, count), words);
+        const fty_numbers first = of(scalars, count);
+        const size_t length = fty_delta_set_length(first, words);
         if (length >= sizeof set || (words & 0x7FFF) > count)
             continue;
-        check_result("lengths", i, sum_of_set(scalars, count, set, length, words), FTY_OK, 0);
-        check_result("more", i, sum_of_set(scalars, count, set, length + 1, words),
+        check_result("lengths", i, sum_of_set(first, bytes(set, length), words), FTY_OK, 0);
+        check_result("more", i, sum_of_set(first, bytes(set, length + 1), words),
                      FTY_COUNT_MISMATCH, 0);
     }
 }
@@ -460,8 +453,8 @@ static void check_nulls(void) {
           FTY_BUFFER_TOO_SMALL);
     check("null out", 2, fty_tag_to_text(0, none, &length), FTY_BUFFER_TOO_SMALL);
     check("null out", 3, (int64_t)length, KEPT);
-    check_result("null deltas", 0, sum_of_deltas(NULL, 0, NULL, 0), FTY_OK, 0);
-    check_result("null set", 0, sum_of_set(NULL, 0, NULL, 0, 0), FTY_OK, 0);
+    check_result("null deltas", 0, sum_of_deltas(of(NULL, 0), of(NULL, 0)), FTY_OK, 0);
+    check_result("null set", 0, sum_of_set(of(NULL, 0), bytes(NULL, 0), 0), FTY_OK, 0);
     check_result("null tag", 0, new_tag(NULL, 0), FTY_TAG_LENGTH, 0);
     fty_matrix_images(&identity, NULL, 0);
 }

@@ -111,32 +111,30 @@ EXPORTS = """
     }
 PARSE(16)
 PARSE(32)
-static fty_status writes(int kind, uint64_t sum, char *out, size_t *length) {
-    __builtin_memcpy(out, &sum, sizeof sum);
-    *length = kind;
-    return (fty_status)(kind + 1);
+static fty_status sees(int kind, uint64_t a, uint64_t b, uint64_t c, uint64_t d, void *sum) {
+    const uint64_t seen = 3 * a + 5 * b + 7 * c + 9 * d;
+    __builtin_memcpy(sum, &seen, sizeof seen);
+    return (fty_status)kind;
 }
 fty_status fty_api_format(int64_t bits, fty_fraction f, char *out, size_t room, size_t *length) {
-    return writes(1, 3 * (uint64_t)bits + 5 * (uint64_t)f.bits + 7 * (uint64_t)room, out, length);
+    *length = 1;
+    return sees(1, bits, f.bits, room, 0, out);
 }
 fty_status fty_api_format_padded(int64_t bits, fty_fraction f, const fty_pad *pad, char *out,
                                  size_t room, size_t *length) {
-    const uint64_t sum = 3 * (uint64_t)bits + 5 * (uint64_t)f.bits + 7 * (uint64_t)room;
-    return writes(2, sum + 9 * (uint64_t)pad->width, out, length);
+    *length = 2;
+    return sees(2, bits, f.bits, room, pad->width, out);
 }
 fty_status fty_api_tag_to_text(uint32_t tag, char *out, size_t room, size_t *length) {
-    return writes(3, 3 * (uint64_t)tag + 7 * (uint64_t)room, out, length);
+    *length = 3;
+    return sees(3, tag, 0, room, 0, out);
 }
-fty_status fty_api_delta_sum(const int32_t *x, size_t n, const int32_t *y, size_t m,
-                             int64_t *sum) {
-    *sum = (int64_t)(3 * (uint64_t)*x + 5 * (uint64_t)*y + 7 * (uint64_t)n + 9 * (uint64_t)m);
-    return (fty_status)5;
+fty_status fty_api_delta_sum(const int32_t *x, size_t n, const int32_t *y, size_t m, int64_t *sum) {
+    return sees(4, *x, *y, n, m, sum);
 }
-fty_status fty_api_delta_set_sum(const int32_t *x, size_t n, const uint8_t *set, size_t m,
+fty_status fty_api_delta_set_sum(const int32_t *x, size_t n, const uint8_t *y, size_t m,
                                  uint16_t words, int64_t *sum) {
-    *sum = (int64_t)(3 * (uint64_t)*x + 5 * (uint64_t)*set + 7 * (uint64_t)n + 9 * (uint64_t)m
-                     + 11 * (uint64_t)words);
-    return (fty_status)6;
+    return sees(5, *x, *y + 256 * words, n, m, sum);
 }
 """
 for T, w, f in (("fixed", 32, 16), ("f2dot14", 16, 14), ("f26dot6", 32, 6)):
@@ -156,7 +154,7 @@ def written(name: str, of: str, call: str, kind: int, total: Rule) -> None:
         lambda p, n, *given: wrap(64, 7 * U(n) + total(*given)))
     always(f"{name}, status and length", f"n: size, {of}", "u32",
            f"{start} const uint32_t found = (uint32_t){call}; found << 8 | (uint32_t)length; }})",
-           (kind + 1) << 8 | kind)
+           kind << 8 | kind)
 
 
 for T, w, f in (("fixed_", 32, 16), ("f2dot14_", 16, 14), ("f26dot6_", 32, 6)):
@@ -172,8 +170,8 @@ written("format_padded", "x: i64, f: u32, m: size", "({ const fty_pad pad = FTY_
         lambda x, f, m: 3 * S(x) + 5 * U(f) + 9 * U(m))
 written("tag_to_text", "x: u32", "fty_tag_to_text(x, out, &length)", 3, lambda x: 3 * U(x))
 for name, of, value, given, words, kind in (
-    ("delta_sum", "fty_numbers", "int32_t", "y: i32", "", 5),
-    ("delta_set_sum", "fty_view", "uint8_t", "y: u8, z: u16", "z, ", 6),
+    ("delta_sum", "fty_numbers", "int32_t", "y: i32", "", 4),
+    ("delta_set_sum", "fty_view", "uint8_t", "y: u8, z: u16", "z, ", 5),
 ):
     call = f"fty_{name}(scalars, other, {words}&it)"
     start = f"({{ const int32_t first = x; const {value} second = y; int64_t it;"
@@ -181,6 +179,6 @@ for name, of, value, given, words, kind in (
     total = f"x: i32, n: size, m: size, {given}"
     row(name, total, "i64", f"{start} (void)!{call}; it; }})",
         lambda p, x, n, m, y, z=None: wrap(64, 3 * S(x) + 7 * U(n) + 9 * U(m) + (
-            5 * S(y) if z is None else 5 * U(y) + 11 * U(z))))
+            5 * S(y) if z is None else 5 * U(y) + 1280 * U(z))))
     always(f"{name}, status", total, "u32", f"{start} (uint32_t){call}; }})", kind)
 # fmt: on

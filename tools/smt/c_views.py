@@ -9,7 +9,7 @@ from z3 import BitVecRef
 import inputs
 from c_row import FIELDS, OUT_OF_BOUNDS, OUT_OF_RANGE, always, fallible, in_c, row, status
 from cases import Rule
-from rules import Products, S, Text, U, fits, fits_unsigned, stored, together, wrap
+from rules import Products, S, Text, U, fits_unsigned, stored, together, wrap
 from scalars import ZERO
 from values import constant
 
@@ -134,9 +134,7 @@ def wrote(
 
 def fits_in(x: BitVecRef, name: str) -> z3.BoolRef:
     """Only 24 bits have no type of their own."""
-    if name[1:] != "24":
-        return z3.BoolVal(True)
-    return fits(24, S(x)) if name[0] == "i" else fits_unsigned(24, U(x))
+    return fits_unsigned(24, U(x)) if name == "u24" else z3.BoolVal(True)
 
 
 REST = "fty_span rest = span;"
@@ -158,23 +156,27 @@ def write(name: str, size: int, type_: str) -> None:
     moved(f"put_{name}", f", x: {type_}", f"(void)!fty_put_{name}(&rest, x)",
           lambda p, text, x: z3.If(
               z3.And(text.has(ZERO, size), fits_in(x, name)), constant(size), ZERO))
-    always(f"put_{name}, absent", f"x: {type_}", "bool",
+    always(f"put_{name} and write_{name}, absent", f"x: {type_}", "bool",
            f"({{ fty_span rest = {{NULL, 0}}; fty_put_{name}(&rest, x) == {OUT_OF_BOUNDS}"
-           f" && {IS_ABSENT.format('rest')}; }})", 1)
+           f" && fty_write_{name}(rest, x) == {OUT_OF_BOUNDS} && {IS_ABSENT.format('rest')};"
+           " })", 1)
     row(f"write_{name}", f"text: room, x: {type_}, at: size", "u32",
         f"fty_write_{name}(fty_span_from(span, at), x)",
         lambda p, text, x, at, result, after: wrote(
             text, x, at, size, result, after, fits_in(x, name)), True)
-    always(f"write_{name}, absent", f"x: {type_}", "u32",
-           f"fty_write_{name}((fty_span){{NULL, 0}}, x)", OUT_OF_BOUNDS)
-    if size > 1 and name[0] == "u":
-        row(f"poke_{name}", f"text: room, x: {type_}", "u32",
-            f"text_length < {size} ? {OUT_OF_BOUNDS} : (fty_poke_{name}(text, x), 0)",
-            lambda p, text, x, result, after: wrote(text, x, ZERO, size, result, after), True)
+
+
+def poke(name: str, size: int, type_: str) -> None:
+    row(f"poke_{name}", f"text: room, x: {type_}", "u32",
+        f"text_length < {size} ? {OUT_OF_BOUNDS} : (fty_poke_{name}(text, x), 0)",
+        lambda p, text, x, result, after: wrote(text, x, ZERO, size, result, after), True)
 
 
 for name, (size, type_) in FIELDS.items():
-    write(name, size, type_)
+    if name not in ("i24", "u64"):  # which OpenType has not
+        write(name, size, type_)
+    if size > 1 and name[0] == "u":
+        poke(name, size, type_)
 
 
 def wrote_sized(p: Products, text: Text, x: Any, result: Any, after: Text) -> Any:
@@ -236,14 +238,11 @@ for size in (2, 3, 4):
     name = f"write_offset{8 * size}"
     row(name, "text: room, at: size, from: size, n: size", "u32",
         PART % f"(uint32_t)fty_{name}(span, at, part)", wrote_offset(size), True)
-    row(f"{name}, to none", "text: room, at: size", "u32",
-        f"(uint32_t)fty_{name}(span, at, (fty_span){{NULL, 0}})",
-        lambda p, text, at, result, after: z3.And(
-            result == OUT_OF_BOUNDS, is_kept(text, after)), True)
-    row(f"{name}, of none", "text: room, at: size", "u32",
-        f"(uint32_t)fty_{name}((fty_span){{NULL, 0}}, at, span)",
-        lambda p, text, at, result, after: z3.And(
-            result == OUT_OF_BOUNDS, is_kept(text, after)), True)
+    for one, other in (("span", "none"), ("none", "span")):
+        row(f"{name}, of {one} to {other}", "text: room, at: size", "u32",
+            f"({{ const fty_span none = {{NULL, 0}}; (uint32_t)fty_{name}({one}, at, {other}); }})",
+            lambda p, text, at, result, after: z3.And(
+                result == OUT_OF_BOUNDS, is_kept(text, after)), True)
     # A part that begins before its table, or with it.
     row(f"{name}, before", "text: room, from: size", "u32",
         f"(uint32_t)fty_{name}(fty_span_from(span, from), 0, span)",

@@ -17,7 +17,7 @@ METADATA = re.compile(r", !([\w.]+) (!\d+|!\{\})$")
 # promised of memory behind a pointer, and how a name is linked.
 PASSED_OVER = set(
     "noalias captures readonly readnone writeonly nofree writable initializes dereferenceable sret "
-    "dead_on_unwind dead_on_return returned immarg signext zeroext fastcc internal hidden "
+    "dead_on_unwind dead_on_return returned immarg signext zeroext noext fastcc internal hidden "
     "dso_local unnamed_addr local_unnamed_addr".split()
 )
 ENDS = set("true false null undef poison zeroinitializer getelementptr inttoptr ptr void".split())
