@@ -7,16 +7,11 @@ use compare::{Metric, Random};
 use font_types as theirs;
 use font_types_proved as ours;
 use std::fmt::{Display, Write as _};
-use std::fs::File;
 use std::hint::black_box;
-use std::io::{BufRead, Write as _};
-use std::path::Path;
-use std::process::Command;
 use std::time::{Duration, Instant};
 
 const COUNT: usize = 1024;
 const GLYPHS: usize = 6253;
-const LINES: usize = 200_000;
 const ROW: Duration = Duration::from_millis(400);
 const BATCHES: usize = 10;
 
@@ -137,54 +132,10 @@ fn fields(random: &mut Random) {
     row("6,253 records of another crate", [ours, None, std]);
 }
 
-/// Answers lines over `font-types`, one after another.
-fn line_by_line() {
-    let mut output = std::io::BufWriter::new(std::io::stdout().lock());
-    for line in std::io::stdin().lock().lines() {
-        let line = line.unwrap();
-        let words: Vec<&str> = line.split_ascii_whitespace().collect();
-        let number = u32::from_str_radix(words[1], 16).unwrap();
-        match words[0] {
-            "uint32" => writeln!(output, "{number}"),
-            _ => writeln!(output, "{} valid", theirs::Tag::from_u32(number)),
-        }
-        .unwrap();
-    }
-}
-
-/// The program beside `line_by_line`, with the same lines.
-fn program(random: &mut Random) {
-    let target = Path::new(env!("CARGO_TARGET_TMPDIR"));
-    let cargo = Command::new(env!("CARGO"))
-        .args(["build", "--quiet", "--release", "--bin", "fontval", "--target-dir"])
-        .args([env!("CARGO_TARGET_TMPDIR"), "--manifest-path"])
-        .arg(concat!(env!("CARGO_MANIFEST_DIR"), "/../Cargo.toml"))
-        .status();
-    assert!(cargo.unwrap().success(), "cargo builds fontval");
-    let mut line = |at: usize| match random.u64() as u32 {
-        number if at % 2 == 0 => format!("uint32 {number:08x}\n"),
-        number => format!("tag {:08x}\n", number & 0x1F1F_1F1F | 0x4040_4040),
-    };
-    let lines = target.join("lines");
-    std::fs::write(&lines, (0..LINES).map(&mut line).collect::<String>()).unwrap();
-    let run = |program: &Path, arguments: &[&str]| -> u64 {
-        let lines = File::open(&lines).unwrap();
-        let run = Command::new(program).args(arguments).stdin(lines).output().unwrap();
-        run.stdout.iter().map(|byte| u64::from(*byte)).sum()
-    };
-    let [fontval, this] = [target.join("release/fontval"), std::env::current_exe().unwrap()];
-    let peer: Work = Some(&|| run(&this, &["line-by-line"]));
-    row("fontval, a program line by line", [Some(&|| run(&fontval, &[])), peer, None]);
-}
-
 fn main() {
-    if std::env::args().any(|argument| argument == "line-by-line") {
-        return line_by_line();
-    }
     let random = &mut Random::new(2026);
     println!("{:34}{:>12}{:>8}", "time of the package over that of", "font-types", "std");
     arithmetic(random);
     decimals(random);
     fields(random);
-    program(random);
 }
