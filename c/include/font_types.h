@@ -46,9 +46,9 @@
  * of its type, or as many as the comment says. "Half up" rounds ties toward positive infinity;
  * "half away from zero" to the greater magnitude.
  *
- * No function takes two integers of different kinds, which a compiler would take in any order. An
- * offset is in a call of its own, a number of fraction bits is a fty_fraction, and an array that
- * goes with another integer is one value with its length: a fty_view, fty_span, fty_buffer or
+ * No function takes two integers of different kinds, which a compiler would take in any order: an
+ * offset is the only integer of its call, a number of fraction bits is a fty_fraction, and an array
+ * beside another integer is one value with its length, a fty_view, fty_span, fty_buffer or
  * fty_numbers.
  *
  * A function that can fail returns a fty_status, and stores its result where its last
