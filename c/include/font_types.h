@@ -287,7 +287,7 @@ FTY_API_INLINE fty_view fty_first(fty_view view, size_t length) FTY_API_NOEXCEPT
 
 /**
  * The first `count` items of `size` bytes, or `size` items of `count` bytes; absent unless all of
- * them are there. If neither is a constant, it costs a division.
+ * them are there. A `size` that is no constant, as one that the font has, costs a division.
  */
 FTY_API_INLINE fty_view fty_items(fty_view view, size_t count, size_t size) FTY_API_NOEXCEPT {
     if (size != 0 && count > view.length / size)
