@@ -209,8 +209,7 @@ static void values_of_opentype(void) {
     STATE(fty_f2dot30_to_fixed(0x26666666) == 39322 && fty_f2dot30_to_fixed(INT32_MAX) == 131072);
     STATE(fty_f2dot30_to_f2dot14(0x26666666) == 9830
           && fty_f2dot30_to_f2dot14(2147475456) == -32768);
-    /* A part of no bytes is there. It is written to no bytes, and so is an absent one; but there
-     * is nothing past the end. */
+    /* A part of no bytes, or an absent one, is written to no room; but not past the end. */
     const fty_view none = fty_first(fty_from(subtable, sizeof bytes), 0);
     const fty_span room = {written, 15};
     STATE(none.bytes == bytes + sizeof bytes

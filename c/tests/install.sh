@@ -35,11 +35,11 @@ has "$(<"$odd/lib/cmake/font_types/font_types-config.cmake")" " [[$odd/inc]])"
 sed -i.kept 's/^version = .*/version = "9.8.7"/' Cargo.toml
 LIBDIR='/a&b|c' make -s install DESTDIR="$work/next" PREFIX=/usr
 mv Cargo.toml.kept Cargo.toml
-is "$(readlink "$work/next/a&b|c/libfont_types.so.9.8")" libfont_types.so.9.8.7
-ls "$work/next/a&b|c/libfont_types.so.9.8.7" >/dev/null
-is "$(grep 'libdir=\|Version' "$work/next/a&b|c/pkgconfig/font_types.pc")" \
+next="$work/next/a&b|c"
+is "$(readlink -e "$next/libfont_types.so.9.8")" "$next/libfont_types.so.9.8.7"
+is "$(grep 'libdir=\|Version' "$next/pkgconfig/font_types.pc")" \
     $'libdir=/a&b|c\nVersion: 9.8.7'
-grep 'N 9.8.7)$' "$work/next/a&b|c/cmake/font_types/font_types-config-version.cmake" >/dev/null
+grep 'N 9.8.7)$' "$next/cmake/font_types/font_types-config-version.cmake" >/dev/null
 
 # The tools that variables name, and the folders that are removed.
 commands=$(CARGO=a-cargo CARGOFLAGS=--a-flag CC=a-cc LDFLAGS=--b-flag AR=an-ar BUILD=a-folder \

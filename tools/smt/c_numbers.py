@@ -3,7 +3,6 @@
 import z3
 from z3 import BitVecRef
 
-import inputs
 from c_row import BAD_FRACTION, OUT_OF_RANGE, always, fallible, row, status
 from cases import Rule
 from rules import N, Products, S, U, fits, near, together, up, whole, wrap
@@ -80,10 +79,11 @@ def rounded(w: int, most: int) -> None:
 
 for w, most in ((16, 14), (32, 30), (64, 30)):
     rounded(w, most)
+# Of each count of an array that fits in memory.
 row("delta_set_length", "n: size, x: u16", "u64",
-    "({ const fty_numbers scalars = {NULL, n}; fty_delta_set_length(scalars, x); })",
-    lambda p, n, x: (lambda bytes_: z3.ZeroExt(64 - inputs.POINTER, wrap(inputs.POINTER, z3.If(
-        z3.ULT(x, 0x8000), bytes_, 2 * bytes_))))(U(x & 0x7FFF) + U(n)))
+    "({ const fty_numbers scalars = {NULL, n / 4}; fty_delta_set_length(scalars, x); })",
+    lambda p, n, x: (lambda it: wrap(64, z3.If(z3.ULT(x, 0x8000), it, 2 * it)))(
+        U(x & 0x7FFF) + U(z3.LShR(n, 2))))
 row("FTY_TAG", "a: i32, b: i32, c: i32, d: i32", "u32", "FTY_TAG(a, b, c, d)",
     lambda p, *v: together([z3.Extract(7, 0, it) for it in v]))
 row("FTY_PAD_INIT, width", "n: size", "u64", "({ fty_pad it = FTY_PAD_INIT(n); it.width; })",
