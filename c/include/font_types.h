@@ -1136,10 +1136,10 @@ typedef struct fty_numbers {
 } fty_numbers;
 
 /** @cond */
+/* Exports, for the functions below, and for languages that do not read this header. */
 FTY_API_MUST_USE fty_status fty_api_delta_sum(
     const int32_t *scalars, size_t scalar_count, const int32_t *deltas, size_t delta_count,
     int64_t *sum) FTY_API_NOEXCEPT;
-
 FTY_API_MUST_USE fty_status fty_api_delta_set_sum(
     const int32_t *scalars, size_t scalar_count, const uint8_t *set, size_t set_length,
     uint16_t word_count, int64_t *sum) FTY_API_NOEXCEPT;
@@ -1244,7 +1244,6 @@ typedef struct fty_pad {
 /** @cond */
 FTY_API_MUST_USE fty_status fty_api_format(
     int64_t bits, fty_fraction fraction, char *out, size_t room, size_t *length) FTY_API_NOEXCEPT;
-
 FTY_API_MUST_USE fty_status fty_api_format_padded(
     int64_t bits, fty_fraction fraction, const fty_pad *pad, char *out, size_t room,
     size_t *length) FTY_API_NOEXCEPT;
