@@ -47,9 +47,8 @@
  * "half away from zero" to the greater magnitude.
  *
  * No function takes two integers of different kinds, which a compiler would take in any order: an
- * offset is the only integer of its call, a number of fraction bits is a fty_fraction, and an array
- * beside another integer is one value with its length, a fty_view, fty_span, fty_buffer or
- * fty_numbers.
+ * offset is the only integer of its call, fraction bits are a fty_fraction, and an array beside
+ * another integer is one value with its length, a fty_view, fty_span, fty_buffer or fty_numbers.
  *
  * A function that can fail returns a fty_status, and stores its result where its last
  * argument points; what writes text stores the text in a fty_buffer, and its length there; a
@@ -171,8 +170,7 @@ typedef struct fty_fraction {
 #else
 #define FTY_FRACTION(BITS) ((fty_fraction){BITS})
 #endif
-/* Formats that fonts and their tools use. OpenType has data types for 16.16 (Fixed) and 2.14
- * (F2DOT14). */
+/* OpenType has data types for 16.16 (Fixed) and 2.14 (F2DOT14). */
 #define FTY_F2DOT14 FTY_FRACTION(14)  /**< 2.14, int16_t */
 #define FTY_F4DOT12 FTY_FRACTION(12)  /**< 4.12, int16_t */
 #define FTY_F6DOT10 FTY_FRACTION(10)  /**< 6.10, int16_t */
@@ -1178,10 +1176,7 @@ FTY_API_INLINE size_t fty_delta_set_length(
     return size * (scalars.count + (word_count & 0x7FFFu));
 }
 
-/**
- * Adds a 48.16 delta to font units, in place, and rounds to the nearest font unit, half up. Fails
- * by FTY_OUT_OF_RANGE.
- */
+/** Adds a 48.16 delta in place, to the nearest font unit, half up, or FTY_OUT_OF_RANGE. */
 FTY_API_MUST_USE fty_status fty_checked_add_delta_i16(
     int64_t delta, int16_t *units) FTY_API_NOEXCEPT;
 

@@ -94,6 +94,11 @@ is "$(grep -v '^fty_api_' <<<"$of_two" | sort)" "$of_one_kind" 'takes two intege
 given=$(grep ', ' <<<"$typed" | grep -v ' fty_api_')
 calls '%s f%d(%s) { return %s; }' <<<"$given" >"$work/right.c"
 calls '%s f%d(%s) { return %s; }' wrong <<<"$given" >"$work/wrong.c"
+# They refuse a view for a span, a span for a view, and each of them for a pointer to it.
+for other in 's/ f([0-9]+\(fty_)span/ g\1view/p' 's/ f([0-9]+\(fty_)view/ g\1span/p' \
+    's/ f([0-9]+\(fty_(view|span)) \*/ h\1 /p'; do
+    sed -nE "$other" "$work/right.c" >>"$work/wrong.c"
+done
 [[ -n ${BUILT-} ]] || for compiler in 'gcc -std=c99' 'gcc -std=c11' 'clang -ferror-limit=0' \
     'clang-22 -ferror-limit=0' 'g++ -x c++' 'clang++ -ferror-limit=0 -x c++'; do
     command -v "${compiler%% *}" >/dev/null || { echo "left out: calls by $compiler"; continue; }

@@ -137,13 +137,6 @@ fty_status fty_api_delta_set_sum(const int32_t *x, size_t n, const uint8_t *y, s
     return sees(5, *x, *y + 256 * words, n, m, sum);
 }
 """
-for T, w, f in (("fixed", 32, 16), ("f2dot14", 16, 14), ("f26dot6", 32, 6)):
-    row(f"{T}_parse, value", "c: u8", f"i{w}", f"({{ const char text = (char)c; int{w}_t it;"
-        f" (void)!fty_{T}_parse(&text, 0, &it); it; }})",
-        lambda p, c, w=w, f=f: wrap(w, U(c) + (f << 8)))
-    row(f"{T}_parse, status", "n: size", "u32", f"({{ const char text = 0; int{w}_t it;"
-        f" (uint32_t)fty_{T}_parse(&text, n, &it); }})",
-        lambda p, n: z3.Extract(63, 32, n) ^ z3.Extract(31, 0, n))
 
 
 def written(name: str, of: str, call: str, kind: int, total: Rule) -> None:
@@ -157,11 +150,17 @@ def written(name: str, of: str, call: str, kind: int, total: Rule) -> None:
            kind << 8 | kind)
 
 
-for T, w, f in (("fixed_", 32, 16), ("f2dot14_", 16, 14), ("f26dot6_", 32, 6)):
-    written(f"{T}format", f"x: i{w}", f"fty_{T}format(x, out, &length)", 1,
+for T, w, f in (("fixed", 32, 16), ("f2dot14", 16, 14), ("f26dot6", 32, 6)):
+    row(f"{T}_parse, value", "c: u8", f"i{w}", f"({{ const char text = (char)c; int{w}_t it;"
+        f" (void)!fty_{T}_parse(&text, 0, &it); it; }})",
+        lambda p, c, w=w, f=f: wrap(w, U(c) + (f << 8)))
+    row(f"{T}_parse, status", "n: size", "u32", f"({{ const char text = 0; int{w}_t it;"
+        f" (uint32_t)fty_{T}_parse(&text, n, &it); }})",
+        lambda p, n: z3.Extract(63, 32, n) ^ z3.Extract(31, 0, n))
+    written(f"{T}_format", f"x: i{w}", f"fty_{T}_format(x, out, &length)", 1,
             lambda x, f=f: 3 * S(x) + 5 * f)
-    written(f"{T}format_padded", f"x: i{w}, m: size", "({ const fty_pad pad = FTY_PAD_INIT(m);"
-            f" fty_{T}format_padded(x, &pad, out, &length); }})", 2,
+    written(f"{T}_format_padded", f"x: i{w}, m: size", "({ const fty_pad pad = FTY_PAD_INIT(m);"
+            f" fty_{T}_format_padded(x, &pad, out, &length); }})", 2,
             lambda x, m, f=f: 3 * S(x) + 5 * f + 9 * U(m))
 written("format", "x: i64, f: u32", "fty_format(x, FTY_FRACTION(f), out, &length)", 1,
         lambda x, f: 3 * S(x) + 5 * U(f))
