@@ -207,20 +207,22 @@ class Pages(unittest.TestCase):
     def test_signs_and_words_of_contracts(self) -> None:
         """The legend has each sign, each member of a callback, each case of an `Option` or a
         `Result`, and each word of Rattle's std, that contracts and definitions use."""
-        shown = [text(path) for path in of(GENERATED, ".rs")]
-        clauses = "".join(re.findall(r"/// ```text\n(.*?)/// ```", "".join(shown), re.DOTALL))
-        code = re.sub(r"///|//.*|-- .*", "", clauses)
-        cases = r"\b(?:Is|If|Match)(?:Some|None|Ok|Err|Option|Result)\b"
-        signs = re.findall(rf"[+*<-]?[^\x00-\x7f]+|&&|\|\||==|\+\+|\^|\bF\.\w+|{cases}", code)
         page = "".join(text("src/contracts.md").split("```")[::2]).replace("\\|", "|")
         legend = " ".join(re.findall("`([^`]+)`", page))
-        self.assertFalse({sign for sign in signs if sign not in legend})
         sources = [it for it in of("crates/", ".rt", ".antt") if "/src/" in it or "/specs/" in it]
-        of_std = r"\buse Rattle\.std\.specs\b[\w.]*\.\{([^}]*)\}"
-        names = ",".join(re.findall(of_std, "".join(text(path) for path in sources))).split(",")
-        words = {name.split(".")[-1].strip() for name in names} & set(re.findall(r"\w+", code))
-        known = set(re.findall(r"\w+", legend)) | set(re.findall(r"pub mod (\w+)", "".join(shown)))
-        self.assertFalse(words - known)
+        of_std = r"\buse Rattle\.std\.specs\b[\w.]*(?:\.\{([^}]*)\}|(?: as |\.)(\w+);)"
+        found = re.findall(of_std, "".join(text(path) for path in sources))
+        names = {it.split(".")[-1].strip() for of in found for it in ",".join(of).split(",")}
+        cases = r"\b(?:Is|If|Match)(?:Some|None|Ok|Err|Option|Result)\b"
+        for package in GENERATED:
+            shown = "".join(text(path) for path in of(package, ".rs"))
+            clauses = "".join(re.findall(r"/// ```text\n(.*?)/// ```", shown, re.DOTALL))
+            code = re.sub(r"///|//.*|-- .*", "", clauses)
+            signs = re.findall(rf"[+*<-]?[^\x00-\x7f]+|&&|\|\||==|\+\+|\^|\bF\.\w+|{cases}", code)
+            self.assertFalse({sign for sign in signs if sign not in legend}, package)
+            # A package has pages of its own definitions.
+            pages = set(re.findall(r"pub mod (\w+)", shown))
+            self.assertFalse(names & words(code) - words(legend) - pages, package)
 
 
 class Package(unittest.TestCase):
