@@ -17,9 +17,6 @@
 /* What a call must leave in an out-parameter if it fails. */
 enum { KEPT = 7, BUFFER = 64, TOO_MANY_SCALARS = 65536 };
 
-/* How many times the exports of products are compared with the header. */
-enum { ROUNDS = 1000000 };
-
 #define COUNT(ROWS) (sizeof(ROWS) / sizeof(ROWS)[0])
 
 static int checks, failures;
@@ -254,25 +251,6 @@ static const struct {
     {fty_f26dot6_div, -1, 128, -1},
 };
 
-/* The exports return what the header does, of numbers of random length; and mul_div of 64 bits has
- * the low bits that the export returns. */
-static void check_exports(void) {
-    uint64_t s = 1;
-    int differences = 0;
-    for (int i = 0; i < ROUNDS; i++) {
-        s ^= s << 13;
-        s ^= s >> 7;
-        s ^= s << 17;
-        const int32_t x = (int32_t)(s >> 32) >> s % 32;
-        const int32_t y = (int32_t)(s & UINT32_MAX) >> (s >> 40) % 32;
-        const int32_t z = (int32_t)(s >> 16 & 0xFFFF) - 32768;
-        differences += inline_fixed_mul(x, y) != fty_fixed_mul(x, y)
-                       || inline_f26dot6_mul(x, y) != fty_f26dot6_mul(x, y)
-                       || (int32_t)fty_mul_div_i64(x, y, z) != fty_fixed_mul_div(x, y, z);
-    }
-    check("exports", 0, differences, 0);
-}
-
 static void check_numbers(void) {
     for (size_t i = 0; i < COUNT(products); i++)
         check("products", i, products[i].call(products[i].x, products[i].y), products[i].expected);
@@ -466,7 +444,6 @@ int main(int count, char **arguments) {
     check("version", 0, fty_version(), FTY_VERSION_NUMBER);
     check_decimals();
     check_numbers();
-    check_exports();
     check_matrices();
     check_sums();
     check_lengths();
