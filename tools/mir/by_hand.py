@@ -29,7 +29,7 @@ TARGETS = ((".", "--example=dump"), (".", "--bin=fontval"), ("c", "--lib"))
 BUILDS = (("release", "unwind", TARGETS[:2]), ("dev", "abort", TARGETS))
 FLAGS = "--cap-lints=allow --force-warn=unsafe_code --emit=mir -Ztrim-diagnostic-paths=no -Cpanic="
 
-WARNING = re.compile(r"^(\S+?):\d+:\d+: warning: (.*)$", re.M)
+WARNING = re.compile(r"^(.+?):\d+:\d+: warning: (.*)$", re.M)
 BODY = re.compile(r"^(?!alloc\d|[ /}]|$)(.*?)(?: =)?(?: \{| const .*;)?$", re.M)
 ERASED = re.compile(r"\w+ (?:font_\w+|generated)::")
 TEXT = re.compile(r"""(?!"[\w./]+")"(?:[^"\\]|\\.)*"|("[^"]*")|'(?:[^'\\]|\\.[^']*)'""")
@@ -39,7 +39,7 @@ PASSED = r"# (?:! )?\[ (?:inline|must_use|allow|warn|deny|diagnostic|path|doc =)
 BEGUN = r"(?:# \[ [^\]]*\] |type [^{}]*; )*(?:pub )?(?:(?:const )?fn|const [A-Z])"
 LISTED = (
     r"# (?:! )?\[ [^\]]*\](?: # \[ [^\]]*\])*[^#;{(\[]*",
-    r"\bmacro_rules ! \S+|\b\w+ ! (?=[\[({])|[)\]}] = >",
+    r"\bmacro_rules ! \S+|\b\w+ ! (?:\{[^}]*\}|(?=[\[(]))|[)\]}] = >",
     rf"\bimpl\b[^{{]*{{(?! {BEGUN})(?: }})?",
     r"(?:pub )?\b(?:mod|type|struct|enum|union|trait|extern)\b[^;{]*[;{]",
 )
@@ -66,7 +66,7 @@ def told(root: Path, erased: set[str]) -> Iterator[str]:
                 where = root / ("c" if crate == "font_types" else "")
                 asked = re.findall("^# env-dep:(.*)", text, re.M)
                 yield from (f"{crate} asks for {it}" for it in asked)
-                for file in re.findall(r"^(\S+):$", text, re.M):
+                for file in re.findall(r"^(.+):$", text, re.M):
                     it = str((where / file).resolve()).removeprefix(f"{root}/")
                     if it not in erased and crate != "dump":
                         yield f"{crate} reads {it}"
@@ -99,7 +99,7 @@ def worded(root: Path) -> Iterator[str]:
     """Yields what has no body, or that of another target."""
     for path in {it.split(" reads ")[1] for it in KEPT if it.endswith(".rs")}:
         if "/host/" not in path:
-            text = words((root / path).read_text(), "crate")
+            text = words((root / path).read_bytes().decode(), "crate")
             text = TEXT.sub(lambda it: it[1] or '""', text)
             last = IMPORT if path.endswith(("lib.rs", "main.rs")) else OTHER_NAME
             found = re.findall(f"{PASSED}|({'|'.join([*LISTED, last])})", text)

@@ -7,8 +7,8 @@ from collections.abc import Iterator
 from pathlib import Path
 
 WORD = re.compile(
-    r"""(?P<comment>//[^\n]*)|(?P<hidden>/\*|\b[bc]?r(?=["#]))|b?"(?:[^"\\]|\\.)*"|"""
-    r"""b?'(?:[^'\\\n]|\\[^\n][^'\n]*)'|\w+|::|!=|\S""",
+    r"""(?P<comment>//[^\n]*)|(?P<hidden>/\*|\b[bc]?r(?=["#])|\A#!(?! *\[)|[\u200e\u200f\ufeff])|"""
+    r"""b?"(?:[^"\\]|\\.)*"|b?'(?:[^'\\\n]|\\[^\n][^'\n]*)'|\w+|::|!=|\S""",
     re.S,
 )
 
@@ -55,9 +55,8 @@ def words(text: str, crate: str) -> str:
     """Returns the words of a file of a crate, without comments and paths to the crate."""
     found = [*WORD.finditer(text)]
     if any(it["hidden"] for it in found):
-        raise ValueError("a comment in brackets, or a raw name or text")
+        raise ValueError("a comment in brackets, a raw name or text, or a sign that is not seen")
     text = " ".join(it[0] for it in found if not it["comment"])
-    text = re.sub(r"# \[ cfg \( doc \) \] use [^;]* ; ", "", text)
     return re.sub(rf"\b(?:crate|super|{crate}) :: ", "", text)
 
 
@@ -66,6 +65,7 @@ def faults(root: Path, files: dict[str, str], lines: dict[str, list[str]]) -> It
     for file, path in files.items():
         crate = file.split("/")[0]
         rust = words("\n".join(lines[path]), crate)
+        rust = re.sub(r"# \[ cfg \( doc \) \] use [^;]* ; ", "", rust)
         source, at = words((root / "crates" / file).read_text(), crate), 0
         for form in OTHER_FORM.finditer(rust):
             yield f"{path}: a form that is not read: `{rust[form.start() :][:40]}`"

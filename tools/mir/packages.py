@@ -56,22 +56,25 @@ class Sources:
         for package, _, folder, module in PACKAGES:
             if any((root / package / it).exists() for it in CONFIGURATION):
                 raise ValueError(f"{package} has what changes how cargo builds it")
-            text = re.sub(r', version = ".*?"', "", (root / package / "Cargo.toml").read_text())
-            manifest = tomllib.loads(text)
+            manifest = tomllib.loads((root / package / "Cargo.toml").read_text())
+            for it in manifest.get("dependencies", {}).values():
+                it.pop("version", None)
             built = {key: it for key, it in manifest.items() if key not in UNBUILT}
             built["package"] = {key: it for key, it in manifest["package"].items() if key in BUILT}
             if built != MANIFESTS[package]:
                 raise ValueError(f"{package}/Cargo.toml builds otherwise: {built}")
             for path in sorted((root / folder).rglob("*.rs")):
-                text, first = path.read_text(), module or path.relative_to(root / folder).parts[0]
+                first = module or path.relative_to(root / folder).parts[0]
+                text = path.read_bytes().decode()
                 self.lines[str(path.relative_to(root))] = text.split("\n")
                 if head := re.match(r"// @generated from crates/(\w+)/src/(.*)\.rt ", text):
                     self.files[f"{head[1]}/src/{head[2]}.rt"] = str(path.relative_to(root))
                     self.modules.add("::".join(head[1].split() + head[2].split("/")))
                     self.crates[first.removesuffix(".rs")] = head[1]
-        # There are two definitions.rs, for documentation.
+                elif path.name != "definitions.rs":  # of which there are two, for documentation
+                    raise ValueError(f"{path} is of no source")
         if len(self.lines) != len(self.files) + 2:
-            raise ValueError("a generated file is of no source, or two are of one")
+            raise ValueError("two generated files are of one source")
 
     def exports(self) -> Iterator[tuple[str, str]]:
         """Yields the path that a module gives to what it re-exports, and the one that this has."""

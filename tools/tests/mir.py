@@ -97,10 +97,12 @@ IDS, PADDING = "src/generated/font_ids/glyph_id.rs", "src/generated/font_decimal
 RAW, FORMAT = "src/generated/font_base/raw.rs", "c/src/generated/font_c/format.rs"
 F4DOT12 = "src/generated/font_fixed/fixed_i16/f4dot12.rs"
 FIXED = "src/generated/font_fixed/fixed_i32/fixed.rs"
+TEXT_OR_NOT = """a = ''', version = "''' # "\nbuild = "src/make.rs"\n# '''"""
 EDITS = [
     (F4DOT12, "FixedI16<12>", "FixedI16<10>", "`type F4Dot12 = FixedI16 < 10 > ;`"),
     (F4DOT12, "Format<16, 12> for", "Format<16, 10> for", "`impl Format < 16 , 10 > for"),
-    (F4DOT12, "f4dot12.rt by", "f6dot10.rt by", "two are of one"),
+    (F4DOT12, "f4dot12.rt by", "f6dot10.rt by", "are of one source"),
+    (F4DOT12, "// @generated", "//", "f4dot12.rs is of no source"),
     (PADDING, "    Left,", "    Right,", "`enum Align { Right , Center , Right }`"),
     (PADDING, "    Left,", "    Left = 0x0,", "`enum Align { Left = 0x0 , Center , Right }`"),
     (PADDING, "pub plus: bool", "pub zeros: bool", "`pub zeros : bool "),
@@ -115,11 +117,14 @@ EDITS = [
     (RAW, "impl FixedSize for u16", "type U16 = u32;\nimpl FixedSize for U16", "`type U16 ="),
     (RAW, "pub trait Scalar", "pub trait r#Scalar", "a raw name"),
     (RAW, "pub trait Scalar", "/* a */ pub trait Scalar", "a comment in brackets"),
+    (IDS, "self.0 as u32", '{ // \r"\n #[cfg(windows)] return 1; // \r"\n 0 }', "`# [ cfg ( w"),
+    (IDS, "self.0 as u32", "if cfg\u200e!(windows) { 1 } else { 2 }", "a sign that is not seen"),
     (FORMAT, "#[repr(C)]\n", "", "layouts of other types"),
     (FORMAT, "no_mangle", 'export_name = "fty_fixed_div"', "`# [ unsafe ( export_name ="),
     (FORMAT, 'extern "C" ', "", "other exports"),
     ("Cargo.toml", "[dev-", '[dependencies]\ncore = { path = "core" }\n[dev-', "builds otherwise"),
     ("Cargo.toml", "publish =", 'build = "src/make.rs"\npublish =', "builds otherwise"),
+    ("Cargo.toml", "publish =", f"{TEXT_OR_NOT}\npublish =", "builds otherwise"),
     ("variations/Cargo.toml", 'path = ".."', 'path = "vendor"', "builds otherwise"),
 ]
 
@@ -151,7 +156,10 @@ WORDS = [
     ("c/src/lib.rs", "mod font_base;", "mod font_base;\nmod core {}", "mod core {"),
     ("c/src/lib.rs", "[path =", "[path/**/=", "a comment in brackets"),
     ("src/literal.rs", "literal! {", "literal! { impl Tag { } ", "impl Tag { }"),
+    ("src/literal.rs", "literal! {", "literal! { impl", "literal ! { impl FixedI16"),
+    ("src/literal.rs", "literal! {", "literal! { #[cfg(doc)] use Tag;", "literal ! { # ["),
     ("src/literal.rs", "literal! {", "other! { }\nliteral! {", "other !"),
+    ("src/derives.rs", "//!", '#!/a "\nimpl Law for Tag {}\n// "\n//!', "a sign that is not seen"),
     ("src/traits.rs", AFTER, f"#[cfg(windows)]\n{AFTER}", "# [ cfg ( windows ) ]"),
     (
         "src/traits.rs",
@@ -160,6 +168,7 @@ WORDS = [
         "cfg ( windows ) ]",
     ),
     ("src/traits.rs", AFTER, f"cfg_select! {{ windows => {{}} }}\n{AFTER}", "cfg_select !"),
+    ("src/traits.rs", AFTER, f'// \r"\n#[cfg(windows)]\n// \r"\n{AFTER}', "# [ cfg ( windows ) ]"),
     (
         "src/traits.rs",
         AFTER,
@@ -246,6 +255,8 @@ TOLD = [
     ),
     ("c/src/lib.rs", "src/generated/font_tags/mod", "examples/o", "font_types reads examples/o.rs"),
     ("examples/o.rs", "", OTHER, "font_types reads examples/o.rs"),
+    ("src/lib.rs", "mod cross_type;", '#[path = "a b.rs"]\nmod cross_type;', "reads src/a\\ b.rs"),
+    ("src/a b.rs", "", 'core::arch::global_asm!("");', "a b.rs: usage of `core::arch::global_asm`"),
 ]
 
 # Functions that are refused, not compared: they read through one of several locals or references,
@@ -302,7 +313,7 @@ def edit(path: pathlib.Path, old: str, new: str) -> str:
     path.parent.mkdir(exist_ok=True)
     right = path.read_text() if old else ""
     assert old in right, path
-    path.write_text(right.replace(old, new, 1) if old else new)
+    path.write_text(right.replace(old, new, 1) if old else new, newline="")
     return right
 
 
