@@ -5,7 +5,8 @@ declares before what it has by `*`.
 
 As rustc tells: which files and variables it reads, what has a body and a name, also within another,
 and what is `unsafe` or gives a symbol its name. As words, for what other targets have and what has
-no body: attributes, macros and arms, other `impl`s, items, and imports of a root or by other names.
+no body: attributes, macros and arms, other `impl`s, items, and imports of a root, of all names, or
+by other names.
 """
 
 import os
@@ -42,8 +43,9 @@ LISTED = (
     r"\bmacro_rules ! \S+|\b\w+ ! (?:\{[^}]*\}|(?=[\[(]))|[)\]}] = >",
     rf"\bimpl\b[^{{]*{{(?! {BEGUN})(?: }})?",
     r"(?:pub )?\b(?:mod|type|struct|enum|union|trait|extern)\b[^;{]*[;{]",
+    r"\b(?:fn|const|static) \$ \w+",
 )
-IMPORT, OTHER_NAME = r"(?:pub )?\buse\b[^;]*;", r"\buse\b[^;]*\bas\b[^;]*;"
+IMPORT, OTHER_NAME = r"(?:pub )?\buse\b[^;]*;", r"\buse\b[^;]*(?:\bas\b|\*)[^;]*;"
 
 
 def told(root: Path, erased: set[str]) -> Iterator[str]:

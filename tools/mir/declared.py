@@ -36,7 +36,7 @@ ADDED = re.compile(
 
 # How Rust is laid out, and what it has otherwise.
 CHANGED = (
-    (r"# \[ (?!repr).*?\] ", ""),
+    (r"# \[ (?!repr|unsafe).*?\] ", ""),
     (r"\b(?:core|host) :: ", "std :: "),
     (r"\bfont_types_proved\b", "font_types"),
     (r", (?=[)}\]>{])", ""),
@@ -73,7 +73,7 @@ def faults(root: Path, files: dict[str, str], lines: dict[str, list[str]]) -> It
             rust, source = (re.sub(pattern, new, it) for it in (rust, source))
         if rust.count("# [ repr") != source.count("# [ repr"):
             yield f"{path}: layouts of other types than in its source"
-        if rust.count('extern "C" fn') != source.count('extern "C" fn'):
+        if any(rust.count(it) != source.count(it) for it in ('extern "C" fn', "no_mangle")):
             yield f"{path}: other exports than in its source"
         for it in DECLARED.findall(rust):
             is_import = it.startswith("use ")  # which rustfmt sorts

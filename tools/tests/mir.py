@@ -122,6 +122,7 @@ EDITS = [
     (FORMAT, "#[repr(C)]\n", "", "layouts of other types"),
     (FORMAT, "no_mangle", 'export_name = "fty_fixed_div"', "`# [ unsafe ( export_name ="),
     (FORMAT, 'extern "C" ', "", "other exports"),
+    (FORMAT, "pub fn put_text", "#[unsafe(no_mangle)]\npub fn put_text", "other exports"),
     ("Cargo.toml", "[dev-", '[dependencies]\ncore = { path = "core" }\n[dev-', "builds otherwise"),
     ("Cargo.toml", "publish =", 'build = "src/make.rs"\npublish =', "builds otherwise"),
     ("Cargo.toml", "publish =", f"{TEXT_OR_NOT}\npublish =", "builds otherwise"),
@@ -137,6 +138,8 @@ OTHER = "".join(
 )
 OTHER += "pub use {longdatetime::*, tag::*, version::*};"
 WORDS = [
+    ("src/record.rs", ") => {", ") => {\n        use $crate::*;", "use $ * ;"),
+    ("src/record.rs", ") => {", ") => {\n        fn $Name() {}", "fn $ Name"),
     ("src/lib.rs", "mod literal;", "mod literal;\nmod i32;", "mod i32 ;"),
     ("src/lib.rs", "mod literal;", "macro_rules ! assert { () => {} }", "macro_rules ! assert"),
     ("src/lib.rs", "mod literal;", "#[macro_use]\nmod literal;", "# [ macro_use ]"),
