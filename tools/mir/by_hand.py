@@ -45,6 +45,7 @@ LISTED = (
     r"(?:pub )?\b(?:mod|type|struct|enum|union|trait|extern)\b[^;{]*[;{]",
     r"\b(?:fn|const|static) \$ \w+",
 )
+CONDITION = r"(?:# \[ )?\bcfg\w* [^;{]*"  # of `host`, whose bodies and items are trusted
 IMPORT, OTHER_NAME = r"(?:pub )?\buse\b[^;]*;", r"\buse\b[^;]*(?:\bas\b|\*)[^;]*;"
 
 
@@ -100,14 +101,14 @@ def bodies(where: Path, mir: str, is_of_user: bool) -> Iterator[str]:
 def worded(root: Path) -> Iterator[str]:
     """Yields what has no body, or that of another target."""
     for path in {it.split(" reads ")[1] for it in KEPT if it.endswith(".rs")}:
-        if "/host/" not in path:
-            text = words((root / path).read_bytes().decode(), "crate")
-            text = TEXT.sub(lambda it: it[1] or '""', text)
-            last = IMPORT if path.endswith(("lib.rs", "main.rs")) else OTHER_NAME
-            found = re.findall(f"{PASSED}|({'|'.join([*LISTED, last])})", text)
-            for it, count in Counter(map(str.strip, found)).items():
-                if it:
-                    yield f"{path}: {it}" + f" ({count} times)" * (count > 1)
+        text = words((root / path).read_bytes().decode(), "crate")
+        text = TEXT.sub(lambda it: it[1] or '""', text)
+        last = IMPORT if path.endswith(("lib.rs", "main.rs")) else OTHER_NAME
+        some = [CONDITION] if "/host/" in path else [*LISTED, last]
+        found = re.findall(f"{PASSED}|({'|'.join(some)})", text)
+        for it, count in Counter(map(str.strip, found)).items():
+            if it:
+                yield f"{path}: {it}" + f" ({count} times)" * (count > 1)
 
 
 def faults(root: Path, erased: Iterable[str]) -> Iterator[str]:

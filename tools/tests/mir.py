@@ -155,6 +155,12 @@ WORDS = [
     ("src/lib.rs", "[path =", "[cfg_attr(windows, path =", "# [ cfg_attr ( windows , path = "),
     ("src/lib.rs", "[path =", f"[{LINUX}]\n#[path =", "# [ cfg ( all ( target_os ="),
     ("src/bin/fontval/main.rs", "mod host;", "mod host;\nmod core {}", "mod core {"),
+    (
+        "src/bin/fontval/host/mod.rs",
+        "pub mod io",
+        "#[cfg(test)]\npub mod io",
+        "# [ cfg ( test ) ] pub",
+    ),
     ("variations/src/lib.rs", "mod generated;", "mod generated;\nmod maps {}", "mod maps {"),
     ("c/src/lib.rs", "mod font_base;", "mod font_base;\nmod core {}", "mod core {"),
     ("c/src/lib.rs", "[path =", "[path/**/=", "a comment in brackets"),
