@@ -5,7 +5,7 @@ use std::cell::Cell;
 use std::cmp::Ordering::{self, Equal, Greater, Less};
 use std::collections::{BTreeMap, HashMap, HashSet};
 use std::error::Error;
-use std::fmt::Debug;
+use std::fmt::{self, Debug, Write};
 use std::hash::{BuildHasher, Hash};
 use std::iter::FusedIterator;
 
@@ -25,6 +25,39 @@ fn assert_distinct<T: Clone + Eq + Hash + Debug>(values: &[T], texts: &[&str]) {
     for (n, value) in values.iter().enumerate() {
         let found = values.iter().position(|other| other == value);
         assert_eq!(found, Some(n), "{value:?}");
+    }
+}
+
+/// Takes so many calls, and refuses those after them.
+struct Calls(i32);
+
+impl Write for Calls {
+    fn write_str(&mut self, _: &str) -> fmt::Result {
+        self.0 -= 1;
+        if self.0 < 0 { Err(fmt::Error) } else { Ok(()) }
+    }
+}
+
+#[test]
+fn nothing_is_printed_after_an_error() {
+    macro_rules! assert_stops {
+        ($($value:expr;)*) => {$(
+            for calls in 0.. {
+                let (value, mut left) = ($value, Calls(calls));
+                if write!(left, "{value}{value:+09}").is_ok() {
+                    break;
+                }
+                assert_eq!(left.0, -1, "{value}, which may call {calls} times");
+            }
+        )*};
+    }
+    assert_stops! {
+        F2Dot14::ONE; Fixed::NEG_ONE; F48Dot16::ONE; Shortest::new(-3, 6); DecimalFault::Syntax;
+        BigEndian::from(Fixed::ONE); Int24::new(-7); Uint24::new(7); FWord::new(-7); UfWord::new(7);
+        GlyphId16::new(7); GlyphId24::new(7); GlyphId::new(7); NameId::new(7); Tag::new(b"a\0b ");
+        MajorMinor::new(1, 2); Version16Dot16::new(1, 5); InvalidTag::InvalidLength(5);
+        GlyphId16::try_from(GlyphId::new(1 << 16)).unwrap_err();
+        Uint24::try_from(1 << 24).unwrap_err();
     }
 }
 
