@@ -13,7 +13,8 @@ both=$'fty_f26dot6_mul\nfty_fixed_mul'
 is "$(comm -12 <(echo "$both") <(echo "$inline"))" "$both"
 exports=$(sort -u <<<"$declared"$'\n'"$both")
 declares='in font_types.h'
-archived=$(nm --defined-only "$archive" 2>/dev/null | grep ' T ' | names)
+archived=$(nm -g --defined-only "$archive" 2>/dev/null | sed -n 's/^[0-9a-f]* . //p' |
+    grep -vx rust_eh_personality | sort -u)
 is "$archived" "$exports" 'in the archive' "$declares"
 exported=$(nm -D --defined-only "$root/lib/libfont_types.so" | grep -v " A FONT_TYPES_$version\$")
 fails grep -v "@@FONT_TYPES_$version\$" <<<"$exported"
