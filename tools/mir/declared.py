@@ -22,7 +22,8 @@ OTHER_FORM = re.compile(
 
 # What is compared; of a struct each field apart.
 DECLARED = re.compile(
-    r"\b(?:use|type) [^;{]*(?:\{[^}]*\} )?;|\bmod \w+ [;{]|\bconst \w+ : [^;]*;|"
+    r"\b(?:use|type|extern crate) [^;{]*(?:\{[^}]*\} )?;|\bmod \w+ [;{]|"
+    r"\b(?:const|static|static mut) \w+ : [^;]*;|"
     r"\benum [^{]*\{[^}]*\}|(?:# \[ repr .*?\] (?:pub )?)?\b(?:struct|trait|impl) [^;{]*[;{]|"
     r"(?<=[{,] )(?:pub )?\w+ : [^,{}]*(?=[,}])|"
     r"\bfn \w+ (?:< [^(]*> )?\(.*?\) (?:- > .*?)?(?:where .*?)?(?=requires|ensures|\{|;)"

@@ -115,6 +115,8 @@ EDITS = [
     (IDS, "use core::fmt;", "use core::fmt;\nmacro_rules! u16 { () => { u32 } }", "`macro_rules !"),
     (RAW, "impl FixedSize for u16", "mod sizes {}\nimpl FixedSize for u16", "`mod sizes {`"),
     (RAW, "impl FixedSize for u16", "type U16 = u32;\nimpl FixedSize for U16", "`type U16 ="),
+    (RAW, "impl FixedSize for u16", "static None: u8 = 1;\nimpl FixedSize for u16", "`static None"),
+    (RAW, "pub trait Scalar", "extern crate core as a;\npub trait Scalar", "`extern crate"),
     (RAW, "pub trait Scalar", "pub trait r#Scalar", "a raw name"),
     (RAW, "pub trait Scalar", "/* a */ pub trait Scalar", "a comment in brackets"),
     (IDS, "self.0 as u32", '{ // \r"\n #[cfg(windows)] return 1; // \r"\n 0 }', "`# [ cfg ( w"),
