@@ -20,8 +20,8 @@ check:
 	sed -n 's/^left out: //p' "$$log" | sort -u | paste -sd ';' | sed 's/;/; /g; s/^$$/nothing/; s/^/left out: /'
 	exit $$status
 
-# Ends a step if a tool is missing, and says so. What a step runs is not part of make's jobs.
-with = @unset MAKEFLAGS MFLAGS; missing=$$(for it in $(1); do command -v $$it >/dev/null || echo $$it; done | paste -sd ' ')
+# Ends a step if a tool is missing, and says so. A step runs as if make did not run it.
+with = @unset MAKEFLAGS MFLAGS MAKELEVEL; missing=$$(for it in $(1); do command -v $$it >/dev/null || echo $$it; done | paste -sd ' ')
 with += ; [[ -z $$missing ]] || { echo "left out: $@, which needs $$missing"; exit 0; }
 
 rust:
