@@ -196,12 +196,7 @@ WORDS = [
     ("src/traits.rs", AFTER, f"use crate::Tag as Predefined;\n{AFTER}", "use Tag as Predefined ;"),
     ("src/traits.rs", AFTER, f"mod of {{\ntype Predefined = u8;\n}}\n{AFTER}", "type Predefined ="),
     ("src/traits.rs", AFTER, f"impl Law for [u8; 1 + {{ 1 }}] {{}}\n{AFTER}", "[ u8 ; 1 + {"),
-    (
-        "src/traits.rs",
-        AFTER,
-        f"impl Law for [u8; {{ #[allow(unused)] let x = 1; x }}] {{}}\n{AFTER}",
-        "[ u8 ; {",
-    ),
+    ("src/traits.rs", AFTER, f"impl Law for [u8; {{ #[inline] 1 }}] {{}}\n{AFTER}", "[ u8 ; {"),
     (
         "src/record.rs",
         "rules! record {",
