@@ -102,7 +102,8 @@ for other in 's/ f([0-9]+\(fty_)span/ g\1view/p' 's/ f([0-9]+\(fty_)view/ g\1spa
 done
 [[ -n ${BUILT-} ]] || for compiler in 'gcc -std=c99' 'gcc -std=c11' 'clang -ferror-limit=0' \
     'clang-22 -ferror-limit=0' 'g++ -x c++' 'clang++ -ferror-limit=0 -x c++'; do
-    command -v "${compiler%% *}" >/dev/null || { echo "left out: calls by $compiler"; continue; }
+    command -v "${compiler%% *}" >/dev/null ||
+        { echo "left out: calls by $compiler, which needs ${compiler%% *}"; continue; }
     $compiler -Werror -Iinclude -fsyntax-only "$work/right.c"
     fails $compiler -Werror -Iinclude -fsyntax-only "$work/wrong.c"
     refused=$(grep -oE 'wrong\.c:[0-9]+:[0-9]+: error' "$work/log" | cut -d : -f 2 | sort -nu)
@@ -152,7 +153,8 @@ if [[ -z ${BUILT-} && -n $solver ]] && command -v clang-22 >/dev/null; then
         answers "$bits" clang-22 -O2 >"$work/rows.proved"
         for compiler in gcc clang; do
             if fails $compiler -m$bits $sanitized -Iinclude tests/header.c -o "$work/rows"; then
-                echo "left out: the header for $bits bits by $compiler"
+                needs="$compiler$([[ $bits == 64 ]] || echo ' and gcc-multilib')"
+                echo "left out: the header for $bits bits by $compiler, which needs $needs"
                 continue
             fi
             for options in -O3 "$sanitized" {-O2,"$sanitized"}' -U__BYTE_ORDER__'; do
@@ -186,7 +188,7 @@ done
 if cc -m32 -E -x c /dev/null >/dev/null 2>&1; then
     cc -std=c11 $warnings -m32 -ffreestanding -Iinclude -fsyntax-only "$work/alone.c"
 else
-    echo "left out: the header for 32 bits"
+    echo "left out: the header for 32 bits, which needs gcc-multilib"
 fi
 
 # A size_t or an int of 16 bits is refused.

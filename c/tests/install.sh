@@ -126,5 +126,6 @@ cc -shared -fPIC -Iinclude -DPLUG_IN tests/versions.c $shared -o "$work/shared.s
 cc -shared -fPIC -Iinclude -DPLUG_IN tests/versions.c "$root/lib/libfont_types.a" \
     -Wl,--exclude-libs,ALL -o "$work/archive.so"
 cc -Iinclude tests/versions.c "$work/libfont_types.so.9.0" "-Wl,-rpath,$work" -ldl -o "$work/host"
-ours=$(printf '00%02x00' "${version#*.}")
+# shellcheck disable=SC2086
+ours=$(printf %02x ${full//./ })
 is "$("$work/host" "$work/shared.so" "$work/archive.so")" "090000 $ours $ours"

@@ -12,7 +12,7 @@ C
 for compiler in "${compilers[@]}"; do
     read -r c cpp <<<"$compiler"
     command -v "$c" >/dev/null && command -v "$cpp" >/dev/null ||
-        { echo "left out: the checks that need $c and $cpp"; continue; }
+        { echo "left out: checks by $c and $cpp, which needs them"; continue; }
     $c -std=c99 $strict "$work/beyond.c" -o "$work/beyond"
     fails "$work/beyond"
     for library in "$archive" "$shared"; do
@@ -45,7 +45,7 @@ if command -v valgrind >/dev/null; then
     only_stores "$work/stores"
     fails only_stores "$work/stores" load
 else
-    echo "left out: the trace by valgrind"
+    echo "left out: the trace by valgrind, which needs valgrind"
 fi
 
 # If FreeType is installed, its functions against those that README.md names for them.
@@ -60,5 +60,5 @@ if ! fails links_freetype; then
     run "$work/freetype"
     fails "$work/freetype" wrong
 else
-    echo "left out: the comparison with FreeType"
+    echo "left out: the comparison with FreeType, which needs libfreetype-dev"
 fi
