@@ -46,9 +46,10 @@
  * of its type, or as many as the comment says. "Half up" rounds ties toward positive infinity;
  * "half away from zero" to the greater magnitude.
  *
- * No function takes two integers of different kinds, which a compiler would take in any order: an
- * offset is the only integer of its call, fraction bits are a fty_fraction, and an array beside
- * another integer is one value with its length, a fty_view, fty_span, fty_buffer or fty_numbers.
+ * No function of these lists takes two integers of different kinds, which a compiler would take in
+ * any order: an offset is the only integer of its call, fraction bits are a fty_fraction, and an
+ * array beside another integer is one value with its length, a fty_view, fty_span, fty_buffer or
+ * fty_numbers.
  *
  * A function that can fail returns a fty_status, and stores its result where its last
  * argument points; what writes text stores the text in a fty_buffer, and its length there; a
