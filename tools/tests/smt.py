@@ -101,7 +101,8 @@ class SecondProof(unittest.TestCase):
     def test_no_function_is_left_out(self) -> None:
         known = calls()
         places = [(it.place(known), it.text) for it in functions()]
-        self.assertEqual([text for place, text in places if place is None], [])
+        missing = [text for place, text in places if place is None]
+        self.assertEqual(missing, [], "write a row in tools/smt, or a rule")
         page = (ROOT / "docs/EVIDENCE.md").read_text()
         self.assertEqual([rule for rule in RULES if rule not in page], [])
 
