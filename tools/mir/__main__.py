@@ -1,8 +1,7 @@
 """Compares the MIR that was proved with the MIR that rustc compiles from the erased Rust.
 
-`python3 tools/mir [FOLDER]`: of this repository or of a copy, with the MIR that `rt` left in
-`crates/*/out/rlib`, or, if it left none, with a copy, for which cargo, rustc, a C compiler, git and
-python3 suffice.
+`python3 tools/mir`: with the MIR that `rt` left in `crates/*/out/rlib`, or, if it left none, with a
+copy, for which cargo, rustc, a C compiler, git and python3 suffice.
 Each function with code on either side has the same calls in the same order, operands, stores and
 result, under the same conditions, on every path; and Rust computes nothing that may panic and that
 Rattle does not compute and prove. `std.py` lists what has another form on either side, `names.py`
@@ -18,12 +17,11 @@ import subprocess
 import sys
 from pathlib import Path
 
-import by_hand
 import declared
 import facts
 import kept
 import mutants
-from compare import ADVICE, FAULTS, compare, read
+from compare import ADVICE, FAULTS, compare, read, taken
 from names import Names
 from packages import Sources
 
@@ -50,9 +48,9 @@ def report(names: Names, faults: list[str]) -> int:
     return len(errors)
 
 
-def run(root: Path, options: set[str]) -> int:
+def run(options: set[str]) -> int:
     """Runs what the options ask for, and returns how many faults there are."""
-    sources = Sources(root)
+    sources = Sources(ROOT)
     names = [*sources.crates.values()]
     if options == {"--write"}:
         kept.write(ROOT, names)
@@ -60,11 +58,11 @@ def run(root: Path, options: set[str]) -> int:
     is_left = "--proved" in options or any(kept.left_of(ROOT, it).exists() for it in names)
     copy = {} if is_left else kept.kept()
     crates = kept.left(ROOT, names) if is_left else copy["crates"]
-    both = read(root, sources, crates)
-    declarations = declared.faults(root, sources.files, sources.lines)
-    faults = report(both, [*declarations, *by_hand.faults(root, sources.lines)])
+    both = read(ROOT, sources, crates)
+    declarations = declared.faults(ROOT, sources.files, sources.lines)
+    faults = report(both, [*declarations, *taken(ROOT, both)])
     if "--mutants" in options and not faults:
-        faults += mutants.report(root, both, crates)
+        faults += mutants.report(ROOT, both, crates)
     if "--proved" in options:
         print(f"the copy in {PLACE} is of {kept.compared(ROOT, crates)}")
     of = "what `rt` left here" if is_left else f"the copy in {PLACE}, of {copy['of']}"
@@ -75,13 +73,14 @@ def run(root: Path, options: set[str]) -> int:
     return faults + ("--release" in options and is_other)
 
 
-def main() -> int:
-    options = OPTIONS.intersection(sys.argv)
-    (root,) = [Path(it).resolve() for it in sys.argv[1:] if it not in options] or [ROOT]
+def main() -> int | str:
+    options = {*sys.argv[1:]}
+    if others := options - OPTIONS:
+        return f"not known: {' '.join(sorted(others))}"
     sys.setrecursionlimit(20000)
     facts.test()
     try:
-        return min(run(root, options), 1)
+        return min(run(options), 1)
     except FileNotFoundError as error:
         fault = f"{error.filename} is missing: run `rt lib` in font_lines, variations and font_c"
     except subprocess.CalledProcessError as error:

@@ -1,5 +1,6 @@
-"""Compares each function that both sides have."""
+"""Compares each function that both sides have, and finds names that files by hand take."""
 
+import re
 from collections.abc import Iterator
 from pathlib import Path
 
@@ -34,3 +35,19 @@ def compare(names: Names) -> Iterator[tuple[str, str | None]]:
         except FAULTS as error:
             fault = f"{type(error).__name__}: {error}\n    {ADVICE}"
         yield one, fault and f"in Rust {other}\n    {fault}"
+
+
+def taken(root: Path, names: Names) -> Iterator[str]:
+    """Yields what an `impl` by hand has in place of a compared function or constant: one of its name
+    or, for a trait, of a default there. The program's `host` is for no user."""
+    compared = {it.name for it in names.theirs.values()}
+    compared |= {f"{it.module[-1]}::{it.name}" for it in names.theirs.values() if it.module}
+    for path in sorted(names.text.by_hand):
+        *_, place = [None, *rust.PLACE.finditer(path)]
+        if place and not re.search("/(generated|host)/", place[1]):
+            line = (root / place[1]).read_text().split("\n")[int(place[2]) - 1]
+            head = re.match(r" *impl\b(?:.*?(\w+)(?:<[^>]*>)? for )?", line)
+            name = rust.last(path)
+            name = f"{head[1]}::{name}" if head and head[1] else name
+            if head and name in compared:
+                yield f"{place[1]}:{place[2]}: by hand, {name} in place of what is compared"

@@ -4,11 +4,8 @@ import os
 import re
 import subprocess
 import tempfile
-import tomllib
 from collections.abc import Iterator
 from pathlib import Path
-
-import declared
 
 # Without optimizations of MIR, which are trusted as LLVM is.
 FLAGS = "--emit=mir -Cpanic=abort -Coverflow-checks=off -Zmir-opt-level=0 -Zinline-mir=no".split()
@@ -26,21 +23,6 @@ PACKAGES = (
 # What the program has in place of Rattle's std, in its module `host`, as that of Rust differs.
 STAND_INS = r"(?<!:)\bhost(?=::(?:alloc::(?:AllocError|Vec)|hex)\b)"
 
-# What cargo reads beside `Cargo.toml`; of that, what is not built here, and what is.
-CONFIGURATION = ".cargo", "build.rs", "rust-toolchain", "rust-toolchain.toml"
-UNBUILT = {"dev-dependencies", "profile", "workspace"}
-BUILT = {"name", "edition", "build", "links", "autolib", "autobins"}
-PROGRAM = {"name": "fontval", "path": "src/bin/fontval/main.rs", "doc": False}
-LIBRARY_FOR_C = {"name": "font_types", "crate-type": ["staticlib"], "test": False}
-MANIFESTS = {
-    ".": {"package": {"name": "font-types-proved", "edition": "2024"}, "bin": [PROGRAM]},
-    "variations": {
-        "package": {"name": "font-variations-proved", "edition": "2024"},
-        "dependencies": {"font-types-proved": {"path": ".."}},
-    },
-    "c": {"package": {"name": "font-types-c", "edition": "2024"}, "lib": LIBRARY_FOR_C},
-}
-
 EXPORT = r"^pub use ([\w:]+)::(\w+|\{[^}]*\});"
 
 # A literal, or a crate with which a path begins, as the library has it.
@@ -52,17 +34,9 @@ class Sources:
 
     def __init__(self, root: Path) -> None:
         self.crates, self.modules, self.lines, self.files = {}, set(), {}, {}
-        self.by_hand = declared.words((root / "src/lib.rs").read_text(), "crate").split()
-        for package, _, folder, module in PACKAGES:
-            if any((root / package / it).exists() for it in CONFIGURATION):
-                raise ValueError(f"{package} has what changes how cargo builds it")
-            manifest = tomllib.loads((root / package / "Cargo.toml").read_text())
-            for it in manifest.get("dependencies", {}).values():
-                it.pop("version", None)
-            built = {key: it for key, it in manifest.items() if key not in UNBUILT}
-            built["package"] = {key: it for key, it in manifest["package"].items() if key in BUILT}
-            if built != MANIFESTS[package]:
-                raise ValueError(f"{package}/Cargo.toml builds otherwise: {built}")
+        by_hand = re.sub("//.*", "", (root / "src/lib.rs").read_text())
+        self.by_hand = re.findall(r"\w+", by_hand)
+        for _, _, folder, module in PACKAGES:
             for path in sorted((root / folder).rglob("*.rs")):
                 first = module or path.relative_to(root / folder).parts[0]
                 text = path.read_bytes().decode()
@@ -71,10 +45,6 @@ class Sources:
                     self.files[f"{head[1]}/src/{head[2]}.rt"] = str(path.relative_to(root))
                     self.modules.add("::".join(head[1].split() + head[2].split("/")))
                     self.crates[first.removesuffix(".rs")] = head[1]
-                elif path.name != "definitions.rs":  # of which there are two, for documentation
-                    raise ValueError(f"{path} is of no source")
-        if len(self.lines) != len(self.files) + 2:
-            raise ValueError("two generated files are of one source")
 
     def exports(self) -> Iterator[tuple[str, str]]:
         """Yields the path that a module gives to what it re-exports, and the one that this has."""

@@ -100,6 +100,7 @@ class Text:
         self.closures: dict[str, str] = {}  # the function of each, by its place
         self.constants: dict[str, set[str]] = {}  # of which types those of a name are
         self.used: set[str] = set()
+        self.by_hand: set[str] = set()  # the functions and constants of other files
         for source in map("\n".join, sources):
             for name in re.findall(DECLARED, source, re.M):
                 self.require_new(name)
@@ -140,7 +141,10 @@ class Text:
                 closure = CLOSURE.search(function.types.get("_1", ""))
                 if function.name.endswith("}()") and closure:
                     self.closures.setdefault(closure[1], function.name)
-                if again and function.name.endswith("()") or names(function.path)[0] not in crates:
+                if names(function.path)[0] not in crates:
+                    self.by_hand.add(function.path)
+                    function = None
+                elif again and function.name.endswith("()"):
                     function = None
                 elif self.functions.setdefault(function.name, function) is not function:
                     raise ValueError(f"two functions are printed as {function.name}")
