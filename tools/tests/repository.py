@@ -58,25 +58,11 @@ ITEMS = [
     ),
 ]
 
-# Where a source could make an error of std, or one for want of memory: each line that names such an
-# error, except where it is a type or a pattern, and each default. So an error is one that a call of
-# std returned, except in the lines of `MADE`.
-MAKER = re.compile(
-    r"(?<!type )\bError\b|\bAlloc(Error|Failed)\b(?!>|\) ->)|\bFailed\b(?!>)|(::|_)default\b"
-    r"|(?<!\.)\bMemory\b(?!(\(\w+\))?\) =>)"
+# Where a source makes an error of std, or one for want of memory or of a device, itself.
+MADE = re.compile(
+    r"\b(Err|ok_or|ok_or_else|map_err)\((?!.*\) =>).*\b(Error|AllocError|Failed|Memory)\b"
+    r"|\bfmt::Error\b"
 )
-NO_MAKER = re.compile(r"//|#\[(derive|error)\(|ghost |(pub )?use (?!.* as )")
-MADE = [
-    ("font_base/src/big_endian.rt", "BigEndian::from(T::default())"),
-    ("font_lines/src/device.rt", "pub struct Failed;"),
-    ("font_lines/src/device.rt", "given.ok_or(Failed)"),
-    ("font_lines/src/error.rt", "Memory(AllocError),"),
-    ("font_lines/src/error.rt", "CommandError::Memory(error)"),
-    ("font_lines/src/serve.rt", "Memory = 1,"),
-    ("font_lines/src/serve.rt", "ServeFault::Memory"),
-    ("font_types/src/json.rt", "Memory = 1,"),
-    ("font_types/src/json.rt", "JsonFault::Memory"),
-]
 
 
 def text(path: str) -> str:
@@ -294,14 +280,9 @@ class Items(unittest.TestCase):
             lines = [line.strip() for line in text(f"crates/{path}").splitlines()]
             code = " ".join(line for line in lines if not line.startswith(("#[error", "//")))
             self.assertIn(item, code, path)
-        made = [
-            (path.removeprefix("crates/"), line.strip())
-            for path in of("crates/", ".rt")
-            if "/src/tests" not in path
-            for line in text(path).splitlines()
-            if MAKER.search(line) and not NO_MAKER.match(line.strip())
-        ]
-        self.assertEqual(made, MADE)
+        rust = (text(it) for it in of("crates/", ".rt") if "/src/tests" not in it)
+        made = [line for it in rust for line in it.splitlines() if MADE.search(line)]
+        self.assertEqual(made, ["    given.ok_or(Failed)"])
         # `Nullable` has no constructor but those of its traits.
         _, nullable = text("crates/font_ids/src/offset.rt").split("pub struct Nullable<T>")
         self.assertEqual(nullable.split(" for Nullable<T>")[0].count("    pub "), 4)
