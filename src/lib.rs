@@ -50,6 +50,7 @@
 #![no_std]
 #![warn(missing_docs, missing_debug_implementations, missing_copy_implementations)]
 #![warn(clippy::must_use_candidate, clippy::missing_errors_doc, clippy::missing_panics_doc)]
+#![deny(unsafe_code)]
 #![warn(clippy::undocumented_unsafe_blocks)]
 // The generated source is written for its proofs, as a law that divides a number by itself, and for
 // debug builds, in which the `match` of an iterator calls less than `map`.
@@ -67,6 +68,8 @@ compile_error!("the source is proved for a `usize` of 64 bits, and relies on one
 
 #[path = "generated/font_base/mod.rs"]
 mod font_base;
+// `Shortest::as_str` has one `unsafe`.
+#[allow(unsafe_code)]
 #[path = "generated/font_decimal/mod.rs"]
 mod font_decimal;
 // The library for C uses more of it.

@@ -1,4 +1,5 @@
 //! What font-types has beside the package: floats, casts from bytes, and a macro.
+#![allow(unsafe_code)]
 
 use crate::*;
 use bytemuck::{AnyBitPattern, NoUninit, Zeroable};

@@ -1,5 +1,6 @@
 #![doc = include_str!("../README.md")]
 #![no_std]
+#![forbid(unsafe_code)]
 #![warn(missing_docs, missing_debug_implementations, missing_copy_implementations)]
 #![warn(clippy::must_use_candidate, clippy::missing_errors_doc, clippy::missing_panics_doc)]
 // The generated source is written for its proofs.
