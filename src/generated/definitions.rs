@@ -389,16 +389,18 @@ pub mod font_base {
         /// the bytes of an array
         ///
         /// ```text
-        /// abbrev array_bytes : ScalarArray T X scalar size x → List ℕ
-        /// array_bytes array = flat_map x.bytes array.raw.now
+        /// module _ {T X : Type 0} {scalar : Scalar.Ghosts T X} {size : FixedSize.Ghosts T} {x : BeByteArray.Ghosts X} where
+        ///   abbrev array_bytes : ScalarArray T X scalar size x → List ℕ
+        ///   array_bytes array = flat_map x.bytes array.raw.now
         /// ```
         pub mod array_bytes {}
 
         /// the number of elements
         ///
         /// ```text
-        /// abbrev array_len : ScalarArray T X scalar size x → ℕ
-        /// array_len array = length (array_bytes array) / size.RAW_BYTE_LEN
+        /// module _ {T X : Type 0} {scalar : Scalar.Ghosts T X} {size : FixedSize.Ghosts T} {x : BeByteArray.Ghosts X} where
+        ///   abbrev array_len : ScalarArray T X scalar size x → ℕ
+        ///   array_len array = length (array_bytes array) / size.RAW_BYTE_LEN
         /// ```
         /// [`array_bytes`]
         pub mod array_len {}
@@ -406,8 +408,9 @@ pub mod font_base {
         /// the bytes of the element at an index
         ///
         /// ```text
-        /// abbrev element_bytes : ScalarArray T X scalar size x → ℕ → List ℕ
-        /// element_bytes array = element size.RAW_BYTE_LEN (array_bytes array)
+        /// module _ {T X : Type 0} {scalar : Scalar.Ghosts T X} {size : FixedSize.Ghosts T} {x : BeByteArray.Ghosts X} where
+        ///   abbrev element_bytes : ScalarArray T X scalar size x → ℕ → List ℕ
+        ///   element_bytes array = element size.RAW_BYTE_LEN (array_bytes array)
         /// ```
         /// [`element`], [`array_bytes`]
         pub mod element_bytes {}
@@ -415,8 +418,9 @@ pub mod font_base {
         /// the bytes of each element, in order
         ///
         /// ```text
-        /// abbrev array_elements : ScalarArray T X scalar size x → List (List ℕ)
-        /// array_elements array = elements size.RAW_BYTE_LEN (array_len array) (array_bytes array)
+        /// module _ {T X : Type 0} {scalar : Scalar.Ghosts T X} {size : FixedSize.Ghosts T} {x : BeByteArray.Ghosts X} where
+        ///   abbrev array_elements : ScalarArray T X scalar size x → List (List ℕ)
+        ///   array_elements array = elements size.RAW_BYTE_LEN (array_len array) (array_bytes array)
         /// ```
         /// [`elements`], [`array_len`], [`array_bytes`]
         pub mod array_elements {}
@@ -424,17 +428,19 @@ pub mod font_base {
         /// the bytes of each element that an iterator has left, in order
         ///
         /// ```text
-        /// abbrev elements_left : ScalarArrayIter T X scalar size x → List (List ℕ)
-        /// elements_left iter = map x.bytes (iter_rest iter.rest)
+        /// module _ {T X : Type 0} {scalar : Scalar.Ghosts T X} {size : FixedSize.Ghosts T} {x : BeByteArray.Ghosts X} where
+        ///   abbrev elements_left : ScalarArrayIter T X scalar size x → List (List ℕ)
+        ///   elements_left iter = map x.bytes (iter_rest iter.rest)
         /// ```
         pub mod elements_left {}
 
         /// the comparisons are sorted: `Less`, then `Equal`, then `Greater`
         ///
         /// ```text
-        /// abbrev RisesAlong : ScalarArray T X scalar size x → (T → Ordering) → Type 0
-        /// RisesAlong array answer = Rises scalar.is_scalar (λ v. x.bytes (scalar.raw_of v)) answer
-        ///     (element_bytes array) (array_len array)
+        /// module _ {T X : Type 0} {scalar : Scalar.Ghosts T X} {size : FixedSize.Ghosts T} {x : BeByteArray.Ghosts X} where
+        ///   abbrev RisesAlong : ScalarArray T X scalar size x → (T → Ordering) → Type 0
+        ///   RisesAlong array answer = Rises scalar.is_scalar (λ v. x.bytes (scalar.raw_of v)) answer
+        ///       (element_bytes array) (array_len array)
         /// ```
         /// [`Rises`], [`element_bytes`], [`array_len`]
         pub mod RisesAlong {}
@@ -442,9 +448,10 @@ pub mod font_base {
         /// elements before `low` compare as `Less`, and those from `high` on as `Greater`
         ///
         /// ```text
-        /// abbrev SplitsArray : ScalarArray T X scalar size x → (T → Ordering) → ℕ → ℕ → Type 0
-        /// SplitsArray array answer = Splits scalar.is_scalar (λ v. x.bytes (scalar.raw_of v)) answer
-        ///     (element_bytes array) (array_len array)
+        /// module _ {T X : Type 0} {scalar : Scalar.Ghosts T X} {size : FixedSize.Ghosts T} {x : BeByteArray.Ghosts X} where
+        ///   abbrev SplitsArray : ScalarArray T X scalar size x → (T → Ordering) → ℕ → ℕ → Type 0
+        ///   SplitsArray array answer = Splits scalar.is_scalar (λ v. x.bytes (scalar.raw_of v)) answer
+        ///       (element_bytes array) (array_len array)
         /// ```
         /// [`Splits`], [`element_bytes`], [`array_len`]
         pub mod SplitsArray {}
@@ -453,11 +460,12 @@ pub mod font_base {
         /// the index before which every element is `Less`, and from which on every element is `Greater`
         ///
         /// ```text
-        /// abbrev IsSearched : ScalarArray T X scalar size x → (T → Ordering) → Result ℕ ℕ → Type 0
-        /// IsSearched array answer result = MatchResult result
-        ///     (λ i. (i < array_len array)
-        ///     × StoresOne scalar.is_scalar (λ v. x.bytes (scalar.raw_of v)) (element_bytes array i) (λ v. answer v ≡ Equal))
-        ///     (λ i. (i ≤ array_len array) × (RisesAlong array answer → SplitsArray array answer i i))
+        /// module _ {T X : Type 0} {scalar : Scalar.Ghosts T X} {size : FixedSize.Ghosts T} {x : BeByteArray.Ghosts X} where
+        ///   abbrev IsSearched : ScalarArray T X scalar size x → (T → Ordering) → Result ℕ ℕ → Type 0
+        ///   IsSearched array answer result = MatchResult result
+        ///       (λ i. (i < array_len array)
+        ///       × StoresOne scalar.is_scalar (λ v. x.bytes (scalar.raw_of v)) (element_bytes array i) (λ v. answer v ≡ Equal))
+        ///       (λ i. (i ≤ array_len array) × (RisesAlong array answer → SplitsArray array answer i i))
         /// ```
         /// [`array_len`], [`StoresOne`], [`element_bytes`], [`RisesAlong`], [`SplitsArray`]
         pub mod IsSearched {}
@@ -466,9 +474,10 @@ pub mod font_base {
         /// before those for which it fails, it holds of every element before the index, and of none from there on
         ///
         /// ```text
-        /// abbrev IsPartitionPoint : ScalarArray T X scalar size x → (T → Bool) → ℕ → Type 0
-        /// IsPartitionPoint array before place = (place ≤ array_len array)
-        ///     × (RisesAlong array (λ v. side (before v)) → SplitsArray array (λ v. side (before v)) place place)
+        /// module _ {T X : Type 0} {scalar : Scalar.Ghosts T X} {size : FixedSize.Ghosts T} {x : BeByteArray.Ghosts X} where
+        ///   abbrev IsPartitionPoint : ScalarArray T X scalar size x → (T → Bool) → ℕ → Type 0
+        ///   IsPartitionPoint array before place = (place ≤ array_len array)
+        ///       × (RisesAlong array (λ v. side (before v)) → SplitsArray array (λ v. side (before v)) place place)
         /// ```
         /// [`array_len`], [`RisesAlong`], [`side`], [`SplitsArray`]
         pub mod IsPartitionPoint {}
@@ -2270,7 +2279,7 @@ pub mod font_geom {
 
     /// Affine transformations of the plane, over any element type.
     ///
-    /// In the order of `crates/font_geom/specs/Matrix.antt`: [`elements_of`](mod@Matrix::elements_of), [`FitsEach`](mod@Matrix::FitsEach), [`identity_matrix`](mod@Matrix::identity_matrix), [`IsLinearForm`](mod@Matrix::IsLinearForm), [`IsAffineForm`](mod@Matrix::IsAffineForm), [`IsTransformed`](mod@Matrix::IsTransformed), [`IsProductOf`](mod@Matrix::IsProductOf), [`CanTakeAffineForm`](mod@Matrix::CanTakeAffineForm), [`CanTransform`](mod@Matrix::CanTransform), [`CanMultiply`](mod@Matrix::CanMultiply), [`linear_form`](mod@Matrix::linear_form), [`affine_form`](mod@Matrix::affine_form), [`image_of`](mod@Matrix::image_of), [`matrix_product`](mod@Matrix::matrix_product).
+    /// In the order of `crates/font_geom/specs/Matrix.antt`: [`elements_of`](mod@Matrix::elements_of), [`FitsEach`](mod@Matrix::FitsEach), [`identity_matrix`](mod@Matrix::identity_matrix), [`IsLinearForm`](mod@Matrix::IsLinearForm), [`IsAffineForm`](mod@Matrix::IsAffineForm), [`IsTransformed`](mod@Matrix::IsTransformed), [`IsProductOf`](mod@Matrix::IsProductOf), [`CanTakeLinearForm`](mod@Matrix::CanTakeLinearForm), [`CanTakeAffineForm`](mod@Matrix::CanTakeAffineForm), [`CanTransform`](mod@Matrix::CanTransform), [`CanMultiply`](mod@Matrix::CanMultiply), [`linear_form`](mod@Matrix::linear_form), [`affine_form`](mod@Matrix::affine_form), [`image_of`](mod@Matrix::image_of), [`matrix_product`](mod@Matrix::matrix_product).
     pub mod Matrix {
         /// the elements in the order of `elements`
         ///
@@ -2304,22 +2313,24 @@ pub mod font_geom {
         /// r is p * x + q * y
         ///
         /// ```text
-        /// record IsLinearForm (p x q y r : T) : Type 0 where
-        ///   first : T
-        ///   second : T
-        ///   is_first : product p x first
-        ///   is_second : product q y second
-        ///   is_sum : sum first second r
+        /// module _ {T : Type 0} (product sum : T → T → T → Type 0) where
+        ///   record IsLinearForm (p x q y r : T) : Type 0 where
+        ///     first : T
+        ///     second : T
+        ///     is_first : product p x first
+        ///     is_second : product q y second
+        ///     is_sum : sum first second r
         /// ```
         pub mod IsLinearForm {}
 
         /// r is p * x + q * y + d, added from left to right
         ///
         /// ```text
-        /// record IsAffineForm (p x q y d r : T) : Type 0 where
-        ///   linear : T
-        ///   is_linear : IsLinearForm p x q y linear
-        ///   is_sum : sum linear d r
+        /// module _ {T : Type 0} (product sum : T → T → T → Type 0) where
+        ///   record IsAffineForm (p x q y d r : T) : Type 0 where
+        ///     linear : T
+        ///     is_linear : IsLinearForm p x q y linear
+        ///     is_sum : sum linear d r
         /// ```
         /// [`IsLinearForm`]
         pub mod IsAffineForm {}
@@ -2327,9 +2338,10 @@ pub mod font_geom {
         /// m transforms the point (x, y) to (x', y')
         ///
         /// ```text
-        /// record IsTransformed (m : Matrix T) (x y x' y' : T) : Type 0 where
-        ///   on_x : IsAffineForm m.xx x m.xy y m.dx x'
-        ///   on_y : IsAffineForm m.yx x m.yy y m.dy y'
+        /// module _ {T : Type 0} (product sum : T → T → T → Type 0) where
+        ///   record IsTransformed (m : Matrix T) (x y x' y' : T) : Type 0 where
+        ///     on_x : IsAffineForm m.xx x m.xy y m.dx x'
+        ///     on_y : IsAffineForm m.yx x m.yy y m.dy y'
         /// ```
         /// [`IsAffineForm`]
         pub mod IsTransformed {}
@@ -2337,33 +2349,50 @@ pub mod font_geom {
         /// c is the product a * b, which applies b first, then a
         ///
         /// ```text
-        /// record IsProductOf (a b c : Matrix T) : Type 0 where
-        ///   xx : IsLinearForm a.xx b.xx a.xy b.yx c.xx
-        ///   yx : IsLinearForm a.yx b.xx a.yy b.yx c.yx
-        ///   xy : IsLinearForm a.xx b.xy a.xy b.yy c.xy
-        ///   yy : IsLinearForm a.yx b.xy a.yy b.yy c.yy
-        ///   dx : IsAffineForm a.xx b.dx a.xy b.dy a.dx c.dx
-        ///   dy : IsAffineForm a.yx b.dx a.yy b.dy a.dy c.dy
+        /// module _ {T : Type 0} (product sum : T → T → T → Type 0) where
+        ///   record IsProductOf (a b c : Matrix T) : Type 0 where
+        ///     xx : IsLinearForm a.xx b.xx a.xy b.yx c.xx
+        ///     yx : IsLinearForm a.yx b.xx a.yy b.yx c.yx
+        ///     xy : IsLinearForm a.xx b.xy a.xy b.yy c.xy
+        ///     yy : IsLinearForm a.yx b.xy a.yy b.yy c.yy
+        ///     dx : IsAffineForm a.xx b.dx a.xy b.dy a.dx c.dx
+        ///     dy : IsAffineForm a.yx b.dx a.yy b.dy a.dy c.dy
         /// ```
         /// [`IsLinearForm`], [`IsAffineForm`]
         pub mod IsProductOf {}
 
+        /// p * x + q * y may be computed
+        ///
+        /// ```text
+        /// module _ {T : Type 0} (can_multiply : T → T → Type 0) (product : T → T → T → Type 0) (can_add : T → T → Type 0)
+        ///     (sum : T → T → T → Type 0) where
+        ///   record CanTakeLinearForm (p x q y : T) : Type 0 where
+        ///     first : can_multiply p x
+        ///     second : can_multiply q y
+        ///     both : (r s : T) → product p x r → product q y s → can_add r s
+        /// ```
+        pub mod CanTakeLinearForm {}
+
         /// p * x + q * y + d may be computed
         ///
         /// ```text
-        /// record CanTakeAffineForm (p x q y d : T) : Type 0 where
-        ///   linear : CanTakeLinearForm p x q y
-        ///   shift : (r : T) → IsLinearForm product sum p x q y r → can_add r d
+        /// module _ {T : Type 0} (can_multiply : T → T → Type 0) (product : T → T → T → Type 0) (can_add : T → T → Type 0)
+        ///     (sum : T → T → T → Type 0) where
+        ///   record CanTakeAffineForm (p x q y d : T) : Type 0 where
+        ///     linear : CanTakeLinearForm p x q y
+        ///     shift : (r : T) → IsLinearForm product sum p x q y r → can_add r d
         /// ```
-        /// [`IsLinearForm`]
+        /// [`CanTakeLinearForm`], [`IsLinearForm`]
         pub mod CanTakeAffineForm {}
 
         /// m may be applied to the point (x, y)
         ///
         /// ```text
-        /// record CanTransform (m : Matrix T) (x y : T) : Type 0 where
-        ///   on_x : CanTakeAffineForm m.xx x m.xy y m.dx
-        ///   on_y : CanTakeAffineForm m.yx x m.yy y m.dy
+        /// module _ {T : Type 0} (can_multiply : T → T → Type 0) (product : T → T → T → Type 0) (can_add : T → T → Type 0)
+        ///     (sum : T → T → T → Type 0) where
+        ///   record CanTransform (m : Matrix T) (x y : T) : Type 0 where
+        ///     on_x : CanTakeAffineForm m.xx x m.xy y m.dx
+        ///     on_y : CanTakeAffineForm m.yx x m.yy y m.dy
         /// ```
         /// [`CanTakeAffineForm`]
         pub mod CanTransform {}
@@ -2371,30 +2400,34 @@ pub mod font_geom {
         /// a may be multiplied by b
         ///
         /// ```text
-        /// record CanMultiply (a b : Matrix T) : Type 0 where
-        ///   xx : CanTakeLinearForm a.xx b.xx a.xy b.yx
-        ///   yx : CanTakeLinearForm a.yx b.xx a.yy b.yx
-        ///   xy : CanTakeLinearForm a.xx b.xy a.xy b.yy
-        ///   yy : CanTakeLinearForm a.yx b.xy a.yy b.yy
-        ///   dx : CanTakeAffineForm a.xx b.dx a.xy b.dy a.dx
-        ///   dy : CanTakeAffineForm a.yx b.dx a.yy b.dy a.dy
+        /// module _ {T : Type 0} (can_multiply : T → T → Type 0) (product : T → T → T → Type 0) (can_add : T → T → Type 0)
+        ///     (sum : T → T → T → Type 0) where
+        ///   record CanMultiply (a b : Matrix T) : Type 0 where
+        ///     xx : CanTakeLinearForm a.xx b.xx a.xy b.yx
+        ///     yx : CanTakeLinearForm a.yx b.xx a.yy b.yx
+        ///     xy : CanTakeLinearForm a.xx b.xy a.xy b.yy
+        ///     yy : CanTakeLinearForm a.yx b.xy a.yy b.yy
+        ///     dx : CanTakeAffineForm a.xx b.dx a.xy b.dy a.dx
+        ///     dy : CanTakeAffineForm a.yx b.dx a.yy b.dy a.dy
         /// ```
-        /// [`CanTakeAffineForm`]
+        /// [`CanTakeLinearForm`], [`CanTakeAffineForm`]
         pub mod CanMultiply {}
 
         /// p * x + q * y
         ///
         /// ```text
-        /// abbrev linear_form : T → T → T → T → T
-        /// linear_form p x q y = plus (times p x) (times q y)
+        /// module _ {T : Type 0} (plus times : T → T → T) where
+        ///   abbrev linear_form : T → T → T → T → T
+        ///   linear_form p x q y = plus (times p x) (times q y)
         /// ```
         pub mod linear_form {}
 
         /// p * x + q * y + d, added from left to right
         ///
         /// ```text
-        /// abbrev affine_form : T → T → T → T → T → T
-        /// affine_form p x q y d = plus (linear_form p x q y) d
+        /// module _ {T : Type 0} (plus times : T → T → T) where
+        ///   abbrev affine_form : T → T → T → T → T → T
+        ///   affine_form p x q y d = plus (linear_form p x q y) d
         /// ```
         /// [`linear_form`]
         pub mod affine_form {}
@@ -2402,8 +2435,9 @@ pub mod font_geom {
         /// the image of the point under m
         ///
         /// ```text
-        /// abbrev image_of : Matrix T → Point T → Point T
-        /// image_of m p = record { x = affine_form m.xx p.x m.xy p.y m.dx; y = affine_form m.yx p.x m.yy p.y m.dy }
+        /// module _ {T : Type 0} (plus times : T → T → T) where
+        ///   abbrev image_of : Matrix T → Point T → Point T
+        ///   image_of m p = record { x = affine_form m.xx p.x m.xy p.y m.dx; y = affine_form m.yx p.x m.yy p.y m.dy }
         /// ```
         /// [`affine_form`]
         pub mod image_of {}
@@ -2411,15 +2445,16 @@ pub mod font_geom {
         /// the product a * b, which applies b first, then a
         ///
         /// ```text
-        /// abbrev matrix_product : Matrix T → Matrix T → Matrix T
-        /// matrix_product a b = record {
-        ///   xx = linear_form a.xx b.xx a.xy b.yx;
-        ///   yx = linear_form a.yx b.xx a.yy b.yx;
-        ///   xy = linear_form a.xx b.xy a.xy b.yy;
-        ///   yy = linear_form a.yx b.xy a.yy b.yy;
-        ///   dx = affine_form a.xx b.dx a.xy b.dy a.dx;
-        ///   dy = affine_form a.yx b.dx a.yy b.dy a.dy;
-        /// }
+        /// module _ {T : Type 0} (plus times : T → T → T) where
+        ///   abbrev matrix_product : Matrix T → Matrix T → Matrix T
+        ///   matrix_product a b = record {
+        ///     xx = linear_form a.xx b.xx a.xy b.yx;
+        ///     yx = linear_form a.yx b.xx a.yy b.yx;
+        ///     xy = linear_form a.xx b.xy a.xy b.yy;
+        ///     yy = linear_form a.yx b.xy a.yy b.yy;
+        ///     dx = affine_form a.xx b.dx a.xy b.dy a.dx;
+        ///     dy = affine_form a.yx b.dx a.yy b.dy a.dy;
+        ///   }
         /// ```
         /// [`linear_form`], [`affine_form`]
         pub mod matrix_product {}

@@ -3,12 +3,16 @@ of its `specs`, and for each definition. Only rustdoc compiles them."""
 
 import itertools
 import re
+import textwrap
 from collections.abc import Iterable
 from dataclasses import dataclass, field
 from pathlib import Path
 
-# A definition begins so; a lemma does not. One of a `module _` is indented.
+# A definition begins so; a lemma does not.
 START = re.compile(r"\s*(?:abbrev |unfoldable |record |pub )+(\w+)", re.UNICODE)
+
+# So begins a `module _`, whose definitions are indented, and have its arguments before their own.
+MODULE = re.compile(r"module _ .*?\bwhere\n", re.DOTALL)
 IMPORT = re.compile(r"^use Rattle\.([\w.]+)\.\{(.*)\}", re.MULTILINE)
 
 # A file of another crate's `specs`, which a crate also has, by its own name or by another.
@@ -18,9 +22,9 @@ EXPORT = re.compile(r"^pub use Rattle\.(\w+)\.specs\.(\w+)(?: as (\w+))?$", re.M
 @dataclass
 class Definition:
     """A definition: the comment above it, or above the one before, which then is of both; its
-    text; and the paths of other definitions, by their names in it. The text goes on with a
-    definition whose path differs by case alone, as `near` of `Near`: not every file system has room
-    for a page of each."""
+    text, below the head of its `module _`; and the paths of other definitions, by their names in
+    it. The text goes on with a definition whose path differs by case alone, as `near` of `Near`:
+    not every file system has room for a page of each."""
 
     comment: str
     text: str
@@ -40,8 +44,12 @@ def read(root: Path, crates: list[str]) -> tuple[Definitions, dict[str, str], di
         for file in sorted((root / f"crates/{crate}/specs").glob("*.antt")):
             module, text = f"{crate}::{file.stem}", file.read_text()
             heads[module], imports[module] = comment_of(text), IMPORT.findall(text)
-            comment = ""
-            for block in re.sub(r"(?m)^module _ .*\n", "", text).split("\n\n"):
+            comment = head = ""
+            for block in text.split("\n\n"):
+                if start := MODULE.match(block):
+                    head, block = start[0], block[start.end() :]
+                elif not block.startswith(" "):
+                    head = ""
                 whole = dedented(block.rstrip())
                 comment = comment_of(whole) or comment
                 block = re.sub(r"(?m)\A(--.*\n)*", "", whole)
@@ -50,7 +58,8 @@ def read(root: Path, crates: list[str]) -> tuple[Definitions, dict[str, str], di
                 path = f"{module}::{name[1]}"
                 pages[path] = next((it for it in pages if it.lower() == path.lower()), path)
                 if pages[path] == path:
-                    definitions[path] = Definition(comment, block)
+                    body = textwrap.indent(block, "  ") if head else block
+                    definitions[path] = Definition(comment, head + body)
                 else:
                     definitions[pages[path]].text += f"\n\n{whole}"
     paths = pages | exported(root, crates, pages)

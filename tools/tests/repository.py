@@ -210,6 +210,22 @@ class Pages(unittest.TestCase):
             pages = set(re.findall(r"pub mod (\w+)", shown))
             self.assertFalse(names & words(code) - words(legend) - pages, package)
 
+    def test_pages_of_definitions(self) -> None:
+        """Each definition that contracts and definitions of a package name has a page, or is on
+        one, with the arguments of its module."""
+        defined = r"(?m)^ *(?:pub )?(?:abbrev|unfoldable|record) (?:pub )?(\w+)"
+        crates = ("font_(?!c/|lines/)\\w+", "variations")
+        for package, pattern in zip(GENERATED, crates):
+            path = re.compile(rf"crates/{pattern}/specs/\w+\.antt")
+            sources = [text(it) for it in of("crates/", ".antt") if path.fullmatch(it)]
+            names = {name for source in sources for name in re.findall(defined, source)}
+            shown = "".join(text(path) for path in of(package, ".rs"))
+            clauses = "".join(re.findall(r"/// ```text\n(.*?)/// ```", shown, re.DOTALL))
+            pages = set(re.findall(defined, clauses.replace("///", "")))
+            self.assertFalse(names & words(re.sub(r"\w+\.\w+", "", clauses)) - pages, package)
+            for head in re.findall(r"(?m)^module _ [^\n]*", "\n".join(sources)):
+                self.assertIn(f"/// {head}\n", clauses)
+
 
 class Package(unittest.TestCase):
     def test_files(self) -> None:
