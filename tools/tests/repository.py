@@ -209,6 +209,13 @@ class Pages(unittest.TestCase):
             # A package has pages of its own definitions.
             pages = set(re.findall(r"pub mod (\w+)", shown))
             self.assertFalse(names & words(code) - words(legend) - pages, package)
+        # No package shows these.
+        others = re.compile(r"crates/font_(?:lines/specs/\w+|c/specs/\w+|types/specs/Json)\.antt")
+        of_kit = r"\buse Rattle\.(?:std|hex|serde_json)\.specs[\w.]*\.\{(.*)\}"
+        for path in filter(others.fullmatch, FILES):
+            found = ",".join(re.findall(of_kit, text(path))).split(",")
+            names = {it.split(".")[-1].strip() for it in found}
+            self.assertFalse(words(" ".join(names)) - words(legend), path)
 
     def test_pages_of_definitions(self) -> None:
         """Each definition that contracts and definitions of a package name has a page, or is on
