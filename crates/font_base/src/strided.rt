@@ -1,8 +1,9 @@
 //! Records whose size is a field of their table.
 
 ghost use Rattle.std.specs.Prelude.{◌≡◌, ◌↔◌, ◌+◌, ◌*◌, ◌<◌, ◌≤◌, IsSome, IfSome, length, take};
-ghost use Rattle.std.specs.Prelude.{drop};
+ghost use Rattle.std.specs.Prelude.{drop, []};
 ghost use Rattle.std.specs.Slice.Iter.{chunks_exact_rest, chunks_exact_size};
+ghost use Rattle.std.specs.Slice.Iter.{chunks_exact_remainder};
 
 use std::slice::ChunksExact;
 
@@ -33,6 +34,7 @@ pub fn records(
     ensures bytes { IfSome result (λ records.
         chunks_exact_rest records ≡ take (count * size) (drop offset bytes.now)) }
     ensures size { IfSome result (λ records. chunks_exact_size records ≡ size) }
+    ensures remainder { IfSome result (λ records. chunks_exact_remainder records ≡ []) }
 {
     if size == 0 {
         return None;

@@ -29,6 +29,7 @@ use core::slice::ChunksExact;
 /// ensures bytes { IfSome result (λ records.
 ///     chunks_exact_rest records ≡ take (count * size) (drop offset bytes.now)) }
 /// ensures size { IfSome result (λ records. chunks_exact_size records ≡ size) }
+/// ensures remainder { IfSome result (λ records. chunks_exact_remainder records ≡ []) }
 /// ```
 /// [Notation](crate::definitions)
 /// </details>
