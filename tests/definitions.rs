@@ -445,6 +445,21 @@ fn constants_and_orders() {
     assert_eq!(format!("{:+} {:>3}", FWord::new(5), UfWord::new(7)), "+5   7");
 }
 
+#[test]
+fn flags_of_tags_ids_and_versions() {
+    fn shown(x: impl std::fmt::Display) -> [String; 4] {
+        [format!("{x}"), format!("{x:>40}"), format!("{x:+040}"), format!("{x:#.1}")]
+    }
+    let (tag, long, short) =
+        (Tag::new(b"a\x1F c"), Version16Dot16::VERSION_2_5, MajorMinor::VERSION_1_1);
+    let ids = (GlyphId16::new(7), GlyphId24::new(7), GlyphId::new(7));
+    assert_eq!(shown(tag), ["a{0x1F} c"; 4]);
+    assert_eq!([shown(ids.0), shown(ids.1), shown(ids.2)], [["GID_7"; 4]; 3]);
+    assert_eq!(shown(NameId::FAMILY_NAME), ["FAMILY_NAME"; 4]);
+    assert_eq!(shown(NameId::new(300)), ["NameId 300"; 4]);
+    assert_eq!([shown(long), shown(short)], [["2.5"; 4], ["1.1"; 4]]);
+}
+
 // ---- elements of a caller
 
 /// A hash of the expression that gave it, so that the order of operands is seen.
