@@ -1,11 +1,11 @@
 -- Laws of tags: `validate` and `new_checked` agree, and a printed text is that of one tag alone.
 use Rattle.std.proofs.Common.{◌≡◌, ◌≢◌, sym, ap, refl, ℕ, suc, ◌/◌, ◌%◌, ◌<◌, ◌≤◌, ◌⊎◌, inl, inr, true, IsTrue, List}
-use Rattle.std.proofs.Common.{[], ◌∷◌, ◌++◌, length, get_or, Result, IsOk, ◌↔◌, IsUtf8, arith, rules}
+use Rattle.std.proofs.Common.{[], ◌∷◌, ◌++◌, length, get_or, Result, Ok, IsOk, ◌↔◌, IsUtf8, arith, rules, append-nil}
 use Rattle.std.proofs.lemmas.Grind.{common_steps}
 use Rattle.std.proofs.{lemmas.Bool.Decides.nat_tests, lemmas.List.get_or_past, lemmas.Str.IsUtf8-from_ascii}
 use Rattle.std.specs.{List.AllByRecursion, Fmt.digit_glyph}
 use Rattle.font_base.specs.{Bytes.are_bytes, Bytes.Laws.are_bytes-length}
-use Rattle.font_tags.specs.Tag.{tag_bytes, tag_of, IsGood, IsChecked, IsValidated, byte_text, tag_text}
+use Rattle.font_tags.specs.Tag.{tag_bytes, tag_of, filled, IsGood, IsChecked, IsValidated, byte_text, tag_text}
 use Rattle.font_tags.specs.{declared.tag.Tag.Tag, declared.tag.InvalidTag.InvalidTag}
 use Rattle.font_tags.proofs.{Good.tag_judgements, Good.to_good, TagText.IsHidden, TagText.byte_text-hidden}
 
@@ -45,6 +45,30 @@ shown_or_hidden byte = grind arith
 
 byte_text-shown : (byte : ℕ) → IsShown byte → byte_text byte ≡ byte ∷ []
 byte_text-shown byte shown = grind (arith, nat_tests)
+
+-- printable bytes print as they are
+all_shown : (bytes : List ℕ) → ((i : ℕ) → i < length bytes → IsShown (get_or bytes i 0)) → tag_text bytes ≡ bytes
+all_shown [] each = refl
+all_shown (byte ∷ bytes) each =
+    let first = byte_text-shown byte (each 0 (omega arith)) in
+    let rest = all_shown bytes (λ i below. each (suc i) (omega (arith, below))) in
+    grind (arith, first, rest)
+
+pub good_prints_itself : (bytes : List ℕ) → IsGood bytes → tag_text bytes ≡ bytes
+good_prints_itself bytes good =
+    let to = to_good bytes good in all_shown bytes (λ i below. grind (arith, to))
+
+-- four bytes need no padding
+unpadded : (bytes : List ℕ) → length bytes ≡ 4 → filled bytes ≡ bytes
+unpadded bytes many = grind (arith, append-nil)
+
+-- a valid tag parses from its text
+pub parsed_again : (tag : Tag) (checked : Result Tag InvalidTag) → IsTrue (are_bytes 4 (tag_bytes tag))
+    → IsGood (tag_bytes tag) → IsChecked (tag_text (tag_bytes tag)) checked → checked ≡ Ok tag
+parsed_again tag checked are good judged =
+    let same = good_prints_itself (tag_bytes tag) good in
+    let whole = rw same at judged in
+    grind (arith, nat_tests, tag_judgements, are_bytes-length, unpadded)
 
 -- two hexadecimal digits are equal if their glyphs are, and neither glyph is a brace
 same_glyph : (c d : ℕ) → c < 16 → d < 16 → digit_glyph true c ≡ digit_glyph true d → c ≡ d
