@@ -7,9 +7,9 @@ pub mod font_decimal {
     /// Decimals: an optional `-`, one or more digits, and optionally a point followed by one or more digits. No plus sign,
     /// exponent or space. OpenType has no such form.
     ///
-    /// In the order of `crates/font_decimal/specs/Grammar.antt`: [`fraction_text`](mod@Grammar::fraction_text), [`HasParts`](mod@Grammar::HasParts), [`Decimal`](mod@Grammar::Decimal), [`IsNoDecimal`](mod@Grammar::IsNoDecimal), [`Plain`](mod@Grammar::Plain), [`Tidy`](mod@Grammar::Tidy).
-    pub mod Grammar {
-        use crate::definitions::font_decimal::Near::signed;
+    /// In the order of `crates/font_decimal/specs/Grammar.antt`: [`fraction_text`](mod@Grammar_antt::fraction_text), [`HasParts`](mod@Grammar_antt::HasParts), [`Decimal`](mod@Grammar_antt::Decimal), [`IsNoDecimal`](mod@Grammar_antt::IsNoDecimal), [`Plain`](mod@Grammar_antt::Plain), [`Tidy`](mod@Grammar_antt::Tidy).
+    pub mod Grammar_antt {
+        use crate::definitions::font_decimal::Near_antt::signed;
         /// the fraction as written: nothing if it has no digits, otherwise a point and its digits
         ///
         /// ```text
@@ -79,8 +79,8 @@ pub mod font_decimal {
     /// Rounding a fraction to an integer. A fixed-point number with f fraction bits is its raw value over 2^f (OpenType,
     /// data types: Fixed, F2DOT14), so parsing, printing and arithmetic all round an exact fraction n / d with 0 < d.
     ///
-    /// In the order of `crates/font_decimal/specs/Near.antt`: [`signed`](mod@Near::signed), [`Near`](mod@Near::Near), [`near_magnitude`](mod@Near::near_magnitude), [`Up`](mod@Near::Up).
-    pub mod Near {
+    /// In the order of `crates/font_decimal/specs/Near.antt`: [`signed`](mod@Near_antt::signed), [`Near`](mod@Near_antt::Near), [`near_magnitude`](mod@Near_antt::near_magnitude), [`Up`](mod@Near_antt::Up).
+    pub mod Near_antt {
         /// the integer with this magnitude, negated if `negative`
         ///
         /// ```text
@@ -131,8 +131,8 @@ pub mod font_decimal {
 
     /// A text that is padded to a width. OpenType has no such rule; std's format specifications have the same alignments.
     ///
-    /// In the order of `crates/font_decimal/specs/Padding.antt`: [`has_minus`](mod@Padding::has_minus), [`shown_sign`](mod@Padding::shown_sign), [`unsigned_body`](mod@Padding::unsigned_body), [`spare_in_front`](mod@Padding::spare_in_front), [`laid_out`](mod@Padding::laid_out), [`padded_text`](mod@Padding::padded_text), [`FillsFront`](mod@Padding::FillsFront).
-    pub mod Padding {
+    /// In the order of `crates/font_decimal/specs/Padding.antt`: [`has_minus`](mod@Padding_antt::has_minus), [`shown_sign`](mod@Padding_antt::shown_sign), [`unsigned_body`](mod@Padding_antt::unsigned_body), [`spare_in_front`](mod@Padding_antt::spare_in_front), [`laid_out`](mod@Padding_antt::laid_out), [`padded_text`](mod@Padding_antt::padded_text), [`FillsFront`](mod@Padding_antt::FillsFront).
+    pub mod Padding_antt {
         /// the text begins with a `-`
         ///
         /// ```text
@@ -205,11 +205,11 @@ pub mod font_decimal {
 
     /// Parsing a decimal as a multiple of 1 / 2^f.
     ///
-    /// In the order of `crates/font_decimal/specs/Reading.antt`: [`Rounds`](mod@Reading::Rounds), [`Reads`](mod@Reading::Reads), [`IsOutOfRange`](mod@Reading::IsOutOfRange), [`Parses`](mod@Reading::Parses), [`IsAtMost`](mod@Reading::IsAtMost).
-    pub mod Reading {
+    /// In the order of `crates/font_decimal/specs/Reading.antt`: [`Rounds`](mod@Reading_antt::Rounds), [`Reads`](mod@Reading_antt::Reads), [`IsOutOfRange`](mod@Reading_antt::IsOutOfRange), [`Parses`](mod@Reading_antt::Parses), [`IsAtMost`](mod@Reading_antt::IsAtMost).
+    pub mod Reading_antt {
         use crate::definitions::font_decimal::{
-            Grammar::{Decimal, IsNoDecimal},
-            Near::Near,
+            Grammar_antt::{Decimal, IsNoDecimal},
+            Near_antt::Near,
         };
         /// the text is a decimal that rounds to b / 2^f, half away from zero
         ///
@@ -274,12 +274,12 @@ pub mod font_decimal {
 
     /// The shortest decimal of b / 2^f: of all that parse back to b, the nearest with the fewest fractional digits.
     ///
-    /// In the order of `crates/font_decimal/specs/Shortest.antt`: [`IsShortest`](mod@Shortest::IsShortest), [`nearest_numeral`](mod@Shortest::nearest_numeral), [`reads_back`](mod@Shortest::reads_back), [`places_from`](mod@Shortest::places_from), [`fewest_places`](mod@Shortest::fewest_places), [`last_digits`](mod@Shortest::last_digits), [`decimal_text`](mod@Shortest::decimal_text), [`shortest_text`](mod@Shortest::shortest_text).
-    pub mod Shortest {
+    /// In the order of `crates/font_decimal/specs/Shortest.antt`: [`IsShortest`](mod@Shortest_antt::IsShortest), [`nearest_numeral`](mod@Shortest_antt::nearest_numeral), [`reads_back`](mod@Shortest_antt::reads_back), [`places_from`](mod@Shortest_antt::places_from), [`fewest_places`](mod@Shortest_antt::fewest_places), [`last_digits`](mod@Shortest_antt::last_digits), [`decimal_text`](mod@Shortest_antt::decimal_text), [`shortest_text`](mod@Shortest_antt::shortest_text).
+    pub mod Shortest_antt {
         use crate::definitions::font_decimal::{
-            Grammar::{Plain, fraction_text},
-            Near::{Near, near_magnitude},
-            Reading::Rounds,
+            Grammar_antt::{Plain, fraction_text},
+            Near_antt::{Near, near_magnitude},
+            Reading_antt::Rounds,
         };
         /// the text is plain and parses back to b; no decimal with as many places is nearer to b / 2^f; and no decimal with
         /// fewer places, however it is written, rounds to b
@@ -365,8 +365,8 @@ pub mod font_decimal {
 
     /// The text of a `Shortest`.
     ///
-    /// In the order of `crates/font_decimal/specs/Shown.antt`: [`shown`](mod@Shown::shown).
-    pub mod Shown {
+    /// In the order of `crates/font_decimal/specs/Shown.antt`: [`shown`](mod@Shown_antt::shown).
+    pub mod Shown_antt {
         /// its bytes from the start of the text to the end
         ///
         /// ```text
@@ -381,9 +381,9 @@ pub mod font_decimal {
 pub mod font_base {
     /// Arrays of scalars (OpenType, the tables' formats: arrays of numbers and of records).
     ///
-    /// In the order of `crates/font_base/specs/Array.antt`: [`array_bytes`](mod@Array::array_bytes), [`array_len`](mod@Array::array_len), [`element_bytes`](mod@Array::element_bytes), [`array_elements`](mod@Array::array_elements), [`elements_left`](mod@Array::elements_left), [`RisesAlong`](mod@Array::RisesAlong), [`SplitsArray`](mod@Array::SplitsArray), [`IsSearched`](mod@Array::IsSearched), [`IsPartitionPoint`](mod@Array::IsPartitionPoint).
-    pub mod Array {
-        use crate::definitions::font_base::Elements::{
+    /// In the order of `crates/font_base/specs/Array.antt`: [`array_bytes`](mod@Array_antt::array_bytes), [`array_len`](mod@Array_antt::array_len), [`element_bytes`](mod@Array_antt::element_bytes), [`array_elements`](mod@Array_antt::array_elements), [`elements_left`](mod@Array_antt::elements_left), [`RisesAlong`](mod@Array_antt::RisesAlong), [`SplitsArray`](mod@Array_antt::SplitsArray), [`IsSearched`](mod@Array_antt::IsSearched), [`IsPartitionPoint`](mod@Array_antt::IsPartitionPoint).
+    pub mod Array_antt {
+        use crate::definitions::font_base::Elements_antt::{
             Rises, Splits, StoresOne, element, elements, side,
         };
         /// the bytes of an array
@@ -485,8 +485,8 @@ pub mod font_base {
 
     /// Big-endian fields.
     ///
-    /// In the order of `crates/font_base/specs/BigEndian.antt`: [`raw_value`](mod@BigEndian::raw_value).
-    pub mod BigEndian {
+    /// In the order of `crates/font_base/specs/BigEndian.antt`: [`raw_value`](mod@BigEndian_antt::raw_value).
+    pub mod BigEndian_antt {
         /// the raw bytes of a field
         ///
         /// ```text
@@ -500,9 +500,9 @@ pub mod font_base {
     /// Big-endian bytes: every number in a font file is stored with its most significant byte first.
     /// (OpenType, data types: "All OpenType fonts use Motorola-style byte ordering (Big Endian)")
     ///
-    /// In the order of `crates/font_base/specs/Bytes.antt`: [`numeral`](mod@Bytes::numeral), [`are_bytes`](mod@Bytes::are_bytes), [`bytes_of`](mod@Bytes::bytes_of), [`signed_numeral`](mod@Bytes::signed_numeral).
-    pub mod Bytes {
-        use crate::definitions::font_base::Wrap::wrap;
+    /// In the order of `crates/font_base/specs/Bytes.antt`: [`numeral`](mod@Bytes_antt::numeral), [`are_bytes`](mod@Bytes_antt::are_bytes), [`bytes_of`](mod@Bytes_antt::bytes_of), [`signed_numeral`](mod@Bytes_antt::signed_numeral).
+    pub mod Bytes_antt {
+        use crate::definitions::font_base::Wrap_antt::wrap;
         /// the unsigned integer with these big-endian bytes
         ///
         /// ```text
@@ -540,8 +540,8 @@ pub mod font_base {
     /// Consecutive elements of equal size.
     /// (OpenType, the tables' formats: arrays, as of `uint16` in `cmap` and of records in the table directory)
     ///
-    /// In the order of `crates/font_base/specs/Elements.antt`: [`element`](mod@Elements::element), [`elements`](mod@Elements::elements), [`AreRaw`](mod@Elements::AreRaw), [`IsStored`](mod@Elements::IsStored), [`StoresOne`](mod@Elements::StoresOne), [`Rises`](mod@Elements::Rises), [`side`](mod@Elements::side), [`Splits`](mod@Elements::Splits).
-    pub mod Elements {
+    /// In the order of `crates/font_base/specs/Elements.antt`: [`element`](mod@Elements_antt::element), [`elements`](mod@Elements_antt::elements), [`AreRaw`](mod@Elements_antt::AreRaw), [`IsStored`](mod@Elements_antt::IsStored), [`StoresOne`](mod@Elements_antt::StoresOne), [`Rises`](mod@Elements_antt::Rises), [`side`](mod@Elements_antt::side), [`Splits`](mod@Elements_antt::Splits).
+    pub mod Elements_antt {
         /// the bytes of the element at an index, if each element has `size` bytes
         ///
         /// ```text
@@ -624,11 +624,11 @@ pub mod font_base {
 
     /// 24-bit signed integers (OpenType, data types: int24).
     ///
-    /// In the order of `crates/font_base/specs/Int24.antt`: [`int24_number`](mod@Int24::int24_number), [`INT24_MIN`](mod@Int24::INT24_MIN), [`INT24_MAX`](mod@Int24::INT24_MAX), [`int24_of`](mod@Int24::int24_of), [`int24_of_bytes`](mod@Int24::int24_of_bytes), [`bytes_of_int24`](mod@Int24::bytes_of_int24).
-    pub mod Int24 {
+    /// In the order of `crates/font_base/specs/Int24.antt`: [`int24_number`](mod@Int24_antt::int24_number), [`INT24_MIN`](mod@Int24_antt::INT24_MIN), [`INT24_MAX`](mod@Int24_antt::INT24_MAX), [`int24_of`](mod@Int24_antt::int24_of), [`int24_of_bytes`](mod@Int24_antt::int24_of_bytes), [`bytes_of_int24`](mod@Int24_antt::bytes_of_int24).
+    pub mod Int24_antt {
         use crate::definitions::font_base::{
-            Bytes::{bytes_of, signed_numeral},
-            Wrap::wrap,
+            Bytes_antt::{bytes_of, signed_numeral},
+            Wrap_antt::wrap,
         };
         /// the value of an `Int24`
         ///
@@ -685,9 +685,9 @@ pub mod font_base {
 
     /// The laws of a scalar: every value has one encoding.
     ///
-    /// In the order of `crates/font_base/specs/Scalar.antt`: [`ScalarLaws`](mod@Scalar::ScalarLaws), [`IsValueOf`](mod@Scalar::IsValueOf).
-    pub mod Scalar {
-        use crate::definitions::font_base::Bytes::are_bytes;
+    /// In the order of `crates/font_base/specs/Scalar.antt`: [`ScalarLaws`](mod@Scalar_antt::ScalarLaws), [`IsValueOf`](mod@Scalar_antt::IsValueOf).
+    pub mod Scalar_antt {
+        use crate::definitions::font_base::Bytes_antt::are_bytes;
         /// Decoding gives a value, encoding gives raw bytes, each is the inverse of the other, and the encoded size is that of
         /// the type. (own: a scalar can be read and written without loss)
         ///
@@ -717,9 +717,9 @@ pub mod font_base {
 
     /// Table data with a fixed-size header.
     ///
-    /// In the order of `crates/font_base/specs/TableData.antt`: [`table_bytes`](mod@TableData::table_bytes), [`IsSampleHeader`](mod@TableData::IsSampleHeader).
-    pub mod TableData {
-        use crate::definitions::font_base::BigEndian::raw_value;
+    /// In the order of `crates/font_base/specs/TableData.antt`: [`table_bytes`](mod@TableData_antt::table_bytes), [`IsSampleHeader`](mod@TableData_antt::IsSampleHeader).
+    pub mod TableData_antt {
+        use crate::definitions::font_base::BigEndian_antt::raw_value;
         /// the bytes of a table
         ///
         /// ```text
@@ -741,9 +741,9 @@ pub mod font_base {
 
     /// 24-bit unsigned integers (OpenType, data types: uint24).
     ///
-    /// In the order of `crates/font_base/specs/Uint24.antt`: [`uint24_number`](mod@Uint24::uint24_number), [`UINT24_MAX`](mod@Uint24::UINT24_MAX), [`uint24_of`](mod@Uint24::uint24_of), [`uint24_of_bytes`](mod@Uint24::uint24_of_bytes), [`bytes_of_uint24`](mod@Uint24::bytes_of_uint24).
-    pub mod Uint24 {
-        use crate::definitions::font_base::Bytes::{bytes_of, numeral};
+    /// In the order of `crates/font_base/specs/Uint24.antt`: [`uint24_number`](mod@Uint24_antt::uint24_number), [`UINT24_MAX`](mod@Uint24_antt::UINT24_MAX), [`uint24_of`](mod@Uint24_antt::uint24_of), [`uint24_of_bytes`](mod@Uint24_antt::uint24_of_bytes), [`bytes_of_uint24`](mod@Uint24_antt::bytes_of_uint24).
+    pub mod Uint24_antt {
+        use crate::definitions::font_base::Bytes_antt::{bytes_of, numeral};
         /// the value of a `Uint24`
         ///
         /// ```text
@@ -789,8 +789,8 @@ pub mod font_base {
 
     /// Wrapping: the low bits of an integer, as a signed integer in two's complement.
     ///
-    /// In the order of `crates/font_base/specs/Wrap.antt`: [`half_range`](mod@Wrap::half_range), [`FitsBits`](mod@Wrap::FitsBits), [`fits_bits`](mod@Wrap::fits_bits), [`wrap`](mod@Wrap::wrap).
-    pub mod Wrap {
+    /// In the order of `crates/font_base/specs/Wrap.antt`: [`half_range`](mod@Wrap_antt::half_range), [`FitsBits`](mod@Wrap_antt::FitsBits), [`fits_bits`](mod@Wrap_antt::fits_bits), [`wrap`](mod@Wrap_antt::wrap).
+    pub mod Wrap_antt {
         /// half the number of values of `w` bits
         ///
         /// ```text
@@ -834,68 +834,41 @@ pub mod font_base {
 pub mod font_fixed {
     /// 26.6 fixed-point numbers: the unit of scaled outlines, and not stored in any table.
     ///
-    /// In the order of `crates/font_fixed/specs/F26Dot6.antt`: [`F26Dot6`](mod@F26Dot6::F26Dot6), [`f26dot6_bits`](mod@F26Dot6::f26dot6_bits).
-    pub mod F26Dot6 {
-        /// an `F26Dot6`
-        ///
-        /// ```text
-        /// abbrev F26Dot6 : Type 0
-        /// F26Dot6 = FixedI32 6
-        /// ```
-        pub mod F26Dot6 {}
-
+    /// In the order of `crates/font_fixed/specs/F26Dot6.antt`: [`f26dot6_bits`](mod@F26Dot6_antt::f26dot6_bits).
+    pub mod F26Dot6_antt {
         /// the raw value of an `F26Dot6`, its value times 2^6
         ///
         /// ```text
         /// abbrev f26dot6_bits : F26Dot6 → ℤ
         /// f26dot6_bits x = x.0
         /// ```
-        /// [`F26Dot6`]
         pub mod f26dot6_bits {}
     }
 
     /// 2.14 fixed-point numbers (OpenType, data types: F2DOT14, "16-bit signed fixed number with the low 14 bits of fraction
     /// (2.14)").
     ///
-    /// In the order of `crates/font_fixed/specs/F2Dot14.antt`: [`F2Dot14`](mod@F2Dot14::F2Dot14), [`f2dot14_bits`](mod@F2Dot14::f2dot14_bits).
-    pub mod F2Dot14 {
-        /// an `F2Dot14`
-        ///
-        /// ```text
-        /// abbrev F2Dot14 : Type 0
-        /// F2Dot14 = FixedI16 14
-        /// ```
-        pub mod F2Dot14 {}
-
+    /// In the order of `crates/font_fixed/specs/F2Dot14.antt`: [`f2dot14_bits`](mod@F2Dot14_antt::f2dot14_bits).
+    pub mod F2Dot14_antt {
         /// the raw value of an `F2Dot14`, its value times 2^14
         ///
         /// ```text
         /// abbrev f2dot14_bits : F2Dot14 → ℤ
         /// f2dot14_bits x = x.0
         /// ```
-        /// [`F2Dot14`]
         pub mod f2dot14_bits {}
     }
 
     /// 2.30 fixed-point numbers. No table of OpenType stores them.
     ///
-    /// In the order of `crates/font_fixed/specs/F2Dot30.antt`: [`F2Dot30`](mod@F2Dot30::F2Dot30), [`f2dot30_bits`](mod@F2Dot30::f2dot30_bits), [`f2dot30_of`](mod@F2Dot30::f2dot30_of).
-    pub mod F2Dot30 {
-        /// an `F2Dot30`
-        ///
-        /// ```text
-        /// abbrev F2Dot30 : Type 0
-        /// F2Dot30 = FixedI32 30
-        /// ```
-        pub mod F2Dot30 {}
-
+    /// In the order of `crates/font_fixed/specs/F2Dot30.antt`: [`f2dot30_bits`](mod@F2Dot30_antt::f2dot30_bits), [`f2dot30_of`](mod@F2Dot30_antt::f2dot30_of).
+    pub mod F2Dot30_antt {
         /// the raw value of an `F2Dot30`, its value times 2^30
         ///
         /// ```text
         /// abbrev f2dot30_bits : F2Dot30 → ℤ
         /// f2dot30_bits x = x.0
         /// ```
-        /// [`F2Dot30`]
         pub mod f2dot30_bits {}
 
         /// the `F2Dot30` with this raw value
@@ -904,51 +877,32 @@ pub mod font_fixed {
         /// abbrev f2dot30_of : ℤ → F2Dot30
         /// f2dot30_of bits = record { 0 = bits }
         /// ```
-        /// [`F2Dot30`]
         pub mod f2dot30_of {}
     }
 
     /// 48.16 fixed-point numbers: wide enough for sums of deltas, and not stored in any table.
     ///
-    /// In the order of `crates/font_fixed/specs/F48Dot16.antt`: [`F48Dot16`](mod@F48Dot16::F48Dot16), [`f48dot16_bits`](mod@F48Dot16::f48dot16_bits).
-    pub mod F48Dot16 {
-        /// an `F48Dot16`
-        ///
-        /// ```text
-        /// abbrev F48Dot16 : Type 0
-        /// F48Dot16 = FixedI64 16
-        /// ```
-        pub mod F48Dot16 {}
-
+    /// In the order of `crates/font_fixed/specs/F48Dot16.antt`: [`f48dot16_bits`](mod@F48Dot16_antt::f48dot16_bits).
+    pub mod F48Dot16_antt {
         /// the raw value of an `F48Dot16`, its value times 2^16
         ///
         /// ```text
         /// abbrev f48dot16_bits : F48Dot16 → ℤ
         /// f48dot16_bits x = x.0
         /// ```
-        /// [`F48Dot16`]
         pub mod f48dot16_bits {}
     }
 
     /// 16.16 fixed-point numbers (OpenType, data types: Fixed, "32-bit signed fixed-point number (16.16)").
     ///
-    /// In the order of `crates/font_fixed/specs/Fixed.antt`: [`Fixed`](mod@Fixed::Fixed), [`fixed_bits`](mod@Fixed::fixed_bits), [`fixed_of`](mod@Fixed::fixed_of).
-    pub mod Fixed {
-        /// a `Fixed`
-        ///
-        /// ```text
-        /// abbrev Fixed : Type 0
-        /// Fixed = FixedI32 16
-        /// ```
-        pub mod Fixed {}
-
+    /// In the order of `crates/font_fixed/specs/Fixed.antt`: [`fixed_bits`](mod@Fixed_antt::fixed_bits), [`fixed_of`](mod@Fixed_antt::fixed_of).
+    pub mod Fixed_antt {
         /// the raw value of a `Fixed`, its value times 2^16
         ///
         /// ```text
         /// abbrev fixed_bits : Fixed → ℤ
         /// fixed_bits x = x.0
         /// ```
-        /// [`Fixed`]
         pub mod fixed_bits {}
 
         /// the `Fixed` with this raw value
@@ -957,15 +911,14 @@ pub mod font_fixed {
         /// abbrev fixed_of : ℤ → Fixed
         /// fixed_of bits = record { 0 = bits }
         /// ```
-        /// [`Fixed`]
         pub mod fixed_of {}
     }
 
     /// 16-bit fixed-point numbers with F fraction bits.
     ///
-    /// In the order of `crates/font_fixed/specs/FixedI16.antt`: [`bits_of`](mod@FixedI16::bits_of), [`of_bits`](mod@FixedI16::of_bits), [`text_of`](mod@FixedI16::text_of).
-    pub mod FixedI16 {
-        use crate::definitions::font_decimal::Shortest::shortest_text;
+    /// In the order of `crates/font_fixed/specs/FixedI16.antt`: [`bits_of`](mod@FixedI16_antt::bits_of), [`of_bits`](mod@FixedI16_antt::of_bits), [`text_of`](mod@FixedI16_antt::text_of).
+    pub mod FixedI16_antt {
+        use crate::definitions::font_decimal::Shortest_antt::shortest_text;
         /// the raw value, the value times 2^F
         ///
         /// ```text
@@ -994,9 +947,9 @@ pub mod font_fixed {
 
     /// 32-bit fixed-point numbers with F fraction bits.
     ///
-    /// In the order of `crates/font_fixed/specs/FixedI32.antt`: [`bits_of`](mod@FixedI32::bits_of), [`text_of`](mod@FixedI32::text_of).
-    pub mod FixedI32 {
-        use crate::definitions::font_decimal::Shortest::shortest_text;
+    /// In the order of `crates/font_fixed/specs/FixedI32.antt`: [`bits_of`](mod@FixedI32_antt::bits_of), [`text_of`](mod@FixedI32_antt::text_of).
+    pub mod FixedI32_antt {
+        use crate::definitions::font_decimal::Shortest_antt::shortest_text;
         /// the raw value, the value times 2^F
         ///
         /// ```text
@@ -1017,9 +970,9 @@ pub mod font_fixed {
 
     /// 64-bit fixed-point numbers with F fraction bits.
     ///
-    /// In the order of `crates/font_fixed/specs/FixedI64.antt`: [`bits_of`](mod@FixedI64::bits_of), [`text_of`](mod@FixedI64::text_of).
-    pub mod FixedI64 {
-        use crate::definitions::font_decimal::Shortest::shortest_text;
+    /// In the order of `crates/font_fixed/specs/FixedI64.antt`: [`bits_of`](mod@FixedI64_antt::bits_of), [`text_of`](mod@FixedI64_antt::text_of).
+    pub mod FixedI64_antt {
+        use crate::definitions::font_decimal::Shortest_antt::shortest_text;
         /// the raw value, the value times 2^F
         ///
         /// ```text
@@ -1040,8 +993,8 @@ pub mod font_fixed {
 
     /// How long a printed text can be.
     ///
-    /// In the order of `crates/font_fixed/specs/Longest.antt`: [`longest`](mod@Longest::longest).
-    pub mod Longest {
+    /// In the order of `crates/font_fixed/specs/Longest.antt`: [`longest`](mod@Longest_antt::longest).
+    pub mod Longest_antt {
         /// the length of the longest text of a w-bit number with f fraction bits: a sign, the digits of the integer part, a
         /// point and the places
         ///
@@ -1054,9 +1007,9 @@ pub mod font_fixed {
 
     /// Laws of products and quotients of w-bit numbers with f fraction bits, over their raw values.
     ///
-    /// In the order of `crates/font_fixed/specs/NumberLaws.antt`: [`OnFour`](mod@NumberLaws::OnFour), [`OnThree`](mod@NumberLaws::OnThree), [`ProductLaws`](mod@NumberLaws::ProductLaws), [`ProductInOneStep`](mod@NumberLaws::ProductInOneStep), [`QuotientLaws`](mod@NumberLaws::QuotientLaws), [`QuotientInOneStep`](mod@NumberLaws::QuotientInOneStep).
-    pub mod NumberLaws {
-        use crate::definitions::font_fixed::Operations::{IsMulDiv, IsProduct, IsQuotient};
+    /// In the order of `crates/font_fixed/specs/NumberLaws.antt`: [`OnFour`](mod@NumberLaws_antt::OnFour), [`OnThree`](mod@NumberLaws_antt::OnThree), [`ProductLaws`](mod@NumberLaws_antt::ProductLaws), [`ProductInOneStep`](mod@NumberLaws_antt::ProductInOneStep), [`QuotientLaws`](mod@NumberLaws_antt::QuotientLaws), [`QuotientInOneStep`](mod@NumberLaws_antt::QuotientInOneStep).
+    pub mod NumberLaws_antt {
+        use crate::definitions::font_fixed::Operations_antt::{IsMulDiv, IsProduct, IsQuotient};
         /// the list has four elements with this property
         ///
         /// ```text
@@ -1125,12 +1078,12 @@ pub mod font_fixed {
     /// The operations of fixed-point numbers, over their raw values. A w-bit number with f fraction bits is its raw value
     /// over 2^f (OpenType, data types: Fixed is 16.16, F2DOT14 is 2.14).
     ///
-    /// In the order of `crates/font_fixed/specs/Operations.antt`: [`WrapsTo`](mod@Operations::WrapsTo), [`wrapped_near`](mod@Operations::wrapped_near), [`IsWrappedNear`](mod@Operations::IsWrappedNear), [`narrowed`](mod@Operations::narrowed), [`IsNarrowed`](mod@Operations::IsNarrowed), [`nearest_whole`](mod@Operations::nearest_whole), [`IsNearestWhole`](mod@Operations::IsNearestWhole), [`fract_of`](mod@Operations::fract_of), [`floor_of`](mod@Operations::floor_of), [`IsFloor`](mod@Operations::IsFloor), [`ceiling_of`](mod@Operations::ceiling_of), [`IsCeiling`](mod@Operations::IsCeiling), [`IsWrappedCeiling`](mod@Operations::IsWrappedCeiling), [`IsFract`](mod@Operations::IsFract), [`least`](mod@Operations::least), [`greatest`](mod@Operations::greatest), [`ReadsBits`](mod@Operations::ReadsBits), [`IsTooFar`](mod@Operations::IsTooFar), [`ParsesBits`](mod@Operations::ParsesBits), [`clamp`](mod@Operations::clamp), [`differ_in_sign`](mod@Operations::differ_in_sign), [`IsProduct`](mod@Operations::IsProduct), [`IsMulDiv`](mod@Operations::IsMulDiv), [`IsQuotient`](mod@Operations::IsQuotient), [`rounded_mul_div`](mod@Operations::rounded_mul_div).
-    pub mod Operations {
-        use crate::definitions::font_base::Wrap::{FitsBits, half_range, wrap};
+    /// In the order of `crates/font_fixed/specs/Operations.antt`: [`WrapsTo`](mod@Operations_antt::WrapsTo), [`wrapped_near`](mod@Operations_antt::wrapped_near), [`IsWrappedNear`](mod@Operations_antt::IsWrappedNear), [`narrowed`](mod@Operations_antt::narrowed), [`IsNarrowed`](mod@Operations_antt::IsNarrowed), [`nearest_whole`](mod@Operations_antt::nearest_whole), [`IsNearestWhole`](mod@Operations_antt::IsNearestWhole), [`fract_of`](mod@Operations_antt::fract_of), [`floor_of`](mod@Operations_antt::floor_of), [`IsFloor`](mod@Operations_antt::IsFloor), [`ceiling_of`](mod@Operations_antt::ceiling_of), [`IsCeiling`](mod@Operations_antt::IsCeiling), [`IsWrappedCeiling`](mod@Operations_antt::IsWrappedCeiling), [`IsFract`](mod@Operations_antt::IsFract), [`least`](mod@Operations_antt::least), [`greatest`](mod@Operations_antt::greatest), [`ReadsBits`](mod@Operations_antt::ReadsBits), [`IsTooFar`](mod@Operations_antt::IsTooFar), [`ParsesBits`](mod@Operations_antt::ParsesBits), [`clamp`](mod@Operations_antt::clamp), [`differ_in_sign`](mod@Operations_antt::differ_in_sign), [`IsProduct`](mod@Operations_antt::IsProduct), [`IsMulDiv`](mod@Operations_antt::IsMulDiv), [`IsQuotient`](mod@Operations_antt::IsQuotient), [`rounded_mul_div`](mod@Operations_antt::rounded_mul_div).
+    pub mod Operations_antt {
+        use crate::definitions::font_base::Wrap_antt::{FitsBits, half_range, wrap};
         use crate::definitions::font_decimal::{
-            Near::{Near, Near as near, Up, Up as up, signed},
-            Reading::{IsOutOfRange, Parses, Reads},
+            Near_antt::{Near, Near as near, Up, Up as up, signed},
+            Reading_antt::{IsOutOfRange, Parses, Reads},
         };
         /// r is z wrapped to w bits: z itself, if it fits in them
         ///
@@ -1383,10 +1336,12 @@ pub mod font_fixed {
 
     /// Parsing a decimal as a value of a fixed-point type.
     ///
-    /// In the order of `crates/font_fixed/specs/Reading.antt`: [`ParsesFixedPoint`](mod@Reading::ParsesFixedPoint).
-    pub mod Reading {
-        use crate::definitions::font_decimal::{Grammar::IsNoDecimal, Shortest::shortest_text};
-        use crate::definitions::font_fixed::Operations::{IsTooFar, ParsesBits, ReadsBits};
+    /// In the order of `crates/font_fixed/specs/Reading.antt`: [`ParsesFixedPoint`](mod@Reading_antt::ParsesFixedPoint).
+    pub mod Reading_antt {
+        use crate::definitions::font_decimal::{
+            Grammar_antt::IsNoDecimal, Shortest_antt::shortest_text,
+        };
+        use crate::definitions::font_fixed::Operations_antt::{IsTooFar, ParsesBits, ReadsBits};
         /// The result of parsing: the nearest value of the type with width w and f fraction bits; `Syntax` if the text is not a
         /// decimal; `OutOfRange` if its nearest value does not fit in the width. The printed text of a value parses as that
         /// value.
@@ -1409,9 +1364,9 @@ pub mod font_fixed {
 
     /// Rounding a fixed-point number to an integer, half up: the raw value of that integer.
     ///
-    /// In the order of `crates/font_fixed/specs/Rounding.antt`: [`rounded`](mod@Rounding::rounded).
-    pub mod Rounding {
-        use crate::definitions::font_decimal::Near::Up as up;
+    /// In the order of `crates/font_fixed/specs/Rounding.antt`: [`rounded`](mod@Rounding_antt::rounded).
+    pub mod Rounding_antt {
+        use crate::definitions::font_decimal::Near_antt::Up as up;
         /// the raw value of the integer nearest to b / 2^f, half up
         ///
         /// ```text
@@ -1428,8 +1383,8 @@ pub mod font_tags {
     /// Dates and times (OpenType, data types: LONGDATETIME, "Date and time represented in number of seconds since 12:00
     /// midnight, January 1, 1904, UTC").
     ///
-    /// In the order of `crates/font_tags/specs/LongDateTime.antt`: [`date_seconds`](mod@LongDateTime::date_seconds), [`date_of`](mod@LongDateTime::date_of).
-    pub mod LongDateTime {
+    /// In the order of `crates/font_tags/specs/LongDateTime.antt`: [`date_seconds`](mod@LongDateTime_antt::date_seconds), [`date_of`](mod@LongDateTime_antt::date_of).
+    pub mod LongDateTime_antt {
         /// the seconds since 1904, negative before that, and the date with these seconds
         ///
         /// ```text
@@ -1450,8 +1405,8 @@ pub mod font_tags {
     /// Four-byte tags (OpenType, data types: Tag, "Array of four uint8s (length = 32 bits) used to identify a table,
     /// design-variation axis, script, language system, feature, or baseline").
     ///
-    /// In the order of `crates/font_tags/specs/Tag.antt`: [`tag_bytes`](mod@Tag::tag_bytes), [`tag_of`](mod@Tag::tag_of), [`four_spaces`](mod@Tag::four_spaces), [`IsVisible`](mod@Tag::IsVisible), [`IsGood`](mod@Tag::IsGood), [`IsFault`](mod@Tag::IsFault), [`IsTagLength`](mod@Tag::IsTagLength), [`IsAcceptable`](mod@Tag::IsAcceptable), [`filled`](mod@Tag::filled), [`IsChecked`](mod@Tag::IsChecked), [`IsValidated`](mod@Tag::IsValidated), [`byte_text`](mod@Tag::byte_text), [`tag_text`](mod@Tag::tag_text).
-    pub mod Tag {
+    /// In the order of `crates/font_tags/specs/Tag.antt`: [`tag_bytes`](mod@Tag_antt::tag_bytes), [`tag_of`](mod@Tag_antt::tag_of), [`four_spaces`](mod@Tag_antt::four_spaces), [`IsVisible`](mod@Tag_antt::IsVisible), [`IsGood`](mod@Tag_antt::IsGood), [`IsFault`](mod@Tag_antt::IsFault), [`IsTagLength`](mod@Tag_antt::IsTagLength), [`IsAcceptable`](mod@Tag_antt::IsAcceptable), [`filled`](mod@Tag_antt::filled), [`IsChecked`](mod@Tag_antt::IsChecked), [`IsValidated`](mod@Tag_antt::IsValidated), [`byte_text`](mod@Tag_antt::byte_text), [`tag_text`](mod@Tag_antt::tag_text).
+    pub mod Tag_antt {
         /// the four bytes of a tag
         ///
         /// ```text
@@ -1583,9 +1538,9 @@ pub mod font_tags {
 
     /// Table versions.
     ///
-    /// In the order of `crates/font_tags/specs/Version.antt`: [`version_bits`](mod@Version::version_bits), [`version_of`](mod@Version::version_of), [`version_major`](mod@Version::version_major), [`version_minor`](mod@Version::version_minor), [`packed_version`](mod@Version::packed_version), [`version_text`](mod@Version::version_text), [`hex_text`](mod@Version::hex_text), [`major_minor_bytes`](mod@Version::major_minor_bytes), [`major_minor_of`](mod@Version::major_minor_of), [`IsCompatible`](mod@Version::IsCompatible).
-    pub mod Version {
-        use crate::definitions::font_base::Bytes::{bytes_of, numeral};
+    /// In the order of `crates/font_tags/specs/Version.antt`: [`version_bits`](mod@Version_antt::version_bits), [`version_of`](mod@Version_antt::version_of), [`version_major`](mod@Version_antt::version_major), [`version_minor`](mod@Version_antt::version_minor), [`packed_version`](mod@Version_antt::packed_version), [`version_text`](mod@Version_antt::version_text), [`hex_text`](mod@Version_antt::hex_text), [`major_minor_bytes`](mod@Version_antt::major_minor_bytes), [`major_minor_of`](mod@Version_antt::major_minor_of), [`IsCompatible`](mod@Version_antt::IsCompatible).
+    pub mod Version_antt {
+        use crate::definitions::font_base::Bytes_antt::{bytes_of, numeral};
         /// the 32 bits of a version (OpenType, data types: Version16Dot16, "Packed 32-bit value with major and minor version
         /// numbers"), and the version with these bits
         ///
@@ -1682,9 +1637,9 @@ pub mod font_tags {
 pub mod font_ids {
     /// Quantities in font design units.
     ///
-    /// In the order of `crates/font_ids/specs/FWord.antt`: [`fword_number`](mod@FWord::fword_number), [`fword_of`](mod@FWord::fword_of), [`ufword_number`](mod@FWord::ufword_number), [`ufword_of`](mod@FWord::ufword_of), [`nearest_unit`](mod@FWord::nearest_unit).
-    pub mod FWord {
-        use crate::definitions::font_decimal::Near::Up as up;
+    /// In the order of `crates/font_ids/specs/FWord.antt`: [`fword_number`](mod@FWord_antt::fword_number), [`fword_of`](mod@FWord_antt::fword_of), [`ufword_number`](mod@FWord_antt::ufword_number), [`ufword_of`](mod@FWord_antt::ufword_of), [`nearest_unit`](mod@FWord_antt::nearest_unit).
+    pub mod FWord_antt {
+        use crate::definitions::font_decimal::Near_antt::Up as up;
         /// the value of an `FWord` (OpenType, data types: FWORD, "int16 that describes a quantity in font design units"),
         /// and the `FWord` with this value
         ///
@@ -1731,9 +1686,9 @@ pub mod font_ids {
 
     /// Glyph ids (OpenType: the glyphs of a font are numbered from 0; ids are stored as uint16 or uint24).
     ///
-    /// In the order of `crates/font_ids/specs/GlyphId.antt`: [`glyph16_number`](mod@GlyphId::glyph16_number), [`glyph16_of`](mod@GlyphId::glyph16_of), [`glyph24_number`](mod@GlyphId::glyph24_number), [`glyph24_of`](mod@GlyphId::glyph24_of), [`glyph_number`](mod@GlyphId::glyph_number), [`refused_number`](mod@GlyphId::refused_number), [`glyph_text`](mod@GlyphId::glyph_text).
-    pub mod GlyphId {
-        use crate::definitions::font_base::Uint24::uint24_number;
+    /// In the order of `crates/font_ids/specs/GlyphId.antt`: [`glyph16_number`](mod@GlyphId_antt::glyph16_number), [`glyph16_of`](mod@GlyphId_antt::glyph16_of), [`glyph24_number`](mod@GlyphId_antt::glyph24_number), [`glyph24_of`](mod@GlyphId_antt::glyph24_of), [`glyph_number`](mod@GlyphId_antt::glyph_number), [`refused_number`](mod@GlyphId_antt::refused_number), [`glyph_text`](mod@GlyphId_antt::glyph_text).
+    pub mod GlyphId_antt {
+        use crate::definitions::font_base::Uint24_antt::uint24_number;
         /// the number of a 16-bit glyph id, and the glyph id with this number
         ///
         /// ```text
@@ -1795,8 +1750,8 @@ pub mod font_ids {
     /// Name ids (OpenType, name IDs: 0 to 25 except 15 are predefined, those up to 255 are reserved, and 256 to 32767 are
     /// font-specific).
     ///
-    /// In the order of `crates/font_ids/specs/NameId.antt`: [`name_number`](mod@NameId::name_number), [`name_id_of`](mod@NameId::name_id_of), [`names`](mod@NameId::names), [`text_in`](mod@NameId::text_in), [`name_text`](mod@NameId::name_text), [`predefined_numbers`](mod@NameId::predefined_numbers), [`predefined_left`](mod@NameId::predefined_left), [`last_reserved`](mod@NameId::last_reserved), [`last_allowed`](mod@NameId::last_allowed).
-    pub mod NameId {
+    /// In the order of `crates/font_ids/specs/NameId.antt`: [`name_number`](mod@NameId_antt::name_number), [`name_id_of`](mod@NameId_antt::name_id_of), [`names`](mod@NameId_antt::names), [`text_in`](mod@NameId_antt::text_in), [`name_text`](mod@NameId_antt::name_text), [`predefined_numbers`](mod@NameId_antt::predefined_numbers), [`predefined_left`](mod@NameId_antt::predefined_left), [`last_reserved`](mod@NameId_antt::last_reserved), [`last_allowed`](mod@NameId_antt::last_allowed).
+    pub mod NameId_antt {
         /// the number of a name id, and the name id with this number
         ///
         /// ```text
@@ -1888,9 +1843,9 @@ pub mod font_ids {
     /// Offsets to tables (OpenType, data types: Offset16, Offset24 and Offset32 are offsets to a table, same as uint16,
     /// uint24 and uint32, and zero is the NULL offset).
     ///
-    /// In the order of `crates/font_ids/specs/Offset.antt`: [`offset16_number`](mod@Offset::offset16_number), [`offset16_of`](mod@Offset::offset16_of), [`offset24_number`](mod@Offset::offset24_number), [`offset24_of`](mod@Offset::offset24_of), [`offset32_number`](mod@Offset::offset32_number), [`offset32_of`](mod@Offset::offset32_of), [`nullable_offset`](mod@Offset::nullable_offset), [`nullable_of`](mod@Offset::nullable_of).
-    pub mod Offset {
-        use crate::definitions::font_base::Uint24::uint24_number;
+    /// In the order of `crates/font_ids/specs/Offset.antt`: [`offset16_number`](mod@Offset_antt::offset16_number), [`offset16_of`](mod@Offset_antt::offset16_of), [`offset24_number`](mod@Offset_antt::offset24_number), [`offset24_of`](mod@Offset_antt::offset24_of), [`offset32_number`](mod@Offset_antt::offset32_number), [`offset32_of`](mod@Offset_antt::offset32_of), [`nullable_offset`](mod@Offset_antt::nullable_offset), [`nullable_of`](mod@Offset_antt::nullable_of).
+    pub mod Offset_antt {
+        use crate::definitions::font_base::Uint24_antt::uint24_number;
         /// the number of an offset, and the offset with this number
         ///
         /// ```text
@@ -1962,8 +1917,8 @@ pub mod font_ids {
 pub mod font_geom {
     /// Axis-aligned bounding boxes.
     ///
-    /// In the order of `crates/font_geom/specs/BoundingBox.antt`: [`CanScale`](mod@BoundingBox::CanScale), [`IsScaled`](mod@BoundingBox::IsScaled), [`is_normalized`](mod@BoundingBox::is_normalized), [`normalized_box`](mod@BoundingBox::normalized_box), [`IsSamePair`](mod@BoundingBox::IsSamePair), [`HasSamePairs`](mod@BoundingBox::HasSamePairs), [`ComparesPair`](mod@BoundingBox::ComparesPair), [`Compares`](mod@BoundingBox::Compares).
-    pub mod BoundingBox {
+    /// In the order of `crates/font_geom/specs/BoundingBox.antt`: [`CanScale`](mod@BoundingBox_antt::CanScale), [`IsScaled`](mod@BoundingBox_antt::IsScaled), [`is_normalized`](mod@BoundingBox_antt::is_normalized), [`normalized_box`](mod@BoundingBox_antt::normalized_box), [`IsSamePair`](mod@BoundingBox_antt::IsSamePair), [`HasSamePairs`](mod@BoundingBox_antt::HasSamePairs), [`ComparesPair`](mod@BoundingBox_antt::ComparesPair), [`Compares`](mod@BoundingBox_antt::Compares).
+    pub mod BoundingBox_antt {
         /// each coordinate may be multiplied by the factor
         ///
         /// ```text
@@ -2047,8 +2002,8 @@ pub mod font_geom {
 
     /// A function that is called on each element of a list, in order, and may change its state.
     ///
-    /// In the order of `crates/font_geom/specs/Calls.antt`: [`CanCallEach`](mod@Calls::CanCallEach), [`CallsEach`](mod@Calls::CallsEach).
-    pub mod Calls {
+    /// In the order of `crates/font_geom/specs/Calls.antt`: [`CanCallEach`](mod@Calls_antt::CanCallEach), [`CallsEach`](mod@Calls_antt::CallsEach).
+    pub mod Calls_antt {
         /// in the state f it may be called on each of these, in order: `pre f x` means that it may be called on x, and
         /// `step f x y g` that the call may return y and leave the state g
         ///
@@ -2074,15 +2029,15 @@ pub mod font_geom {
     /// Matrices of `Fixed`, over their raw values (OpenType, data types: Fixed is 16.16), and the distance of a transformed
     /// point from its exact image.
     ///
-    /// In the order of `crates/font_geom/specs/FixedMatrix.antt`: [`matrix_bits`](mod@FixedMatrix::matrix_bits), [`point_bits`](mod@FixedMatrix::point_bits), [`bits_of_point`](mod@FixedMatrix::bits_of_point), [`rounded_product`](mod@FixedMatrix::rounded_product), [`rounded_image`](mod@FixedMatrix::rounded_image), [`rounded_matrix_product`](mod@FixedMatrix::rounded_matrix_product), [`wrapped_product`](mod@FixedMatrix::wrapped_product), [`wrapped_sum`](mod@FixedMatrix::wrapped_sum), [`fixed_product`](mod@FixedMatrix::fixed_product), [`ProductsAssociate`](mod@FixedMatrix::ProductsAssociate), [`FitsPoint`](mod@FixedMatrix::FitsPoint), [`FitsComposed`](mod@FixedMatrix::FitsComposed), [`FitsInTurn`](mod@FixedMatrix::FitsInTurn), [`exact_row`](mod@FixedMatrix::exact_row), [`IsCloseImage`](mod@FixedMatrix::IsCloseImage), [`exact_coordinate`](mod@FixedMatrix::exact_coordinate), [`exact_image`](mod@FixedMatrix::exact_image), [`IsWithin`](mod@FixedMatrix::IsWithin), [`IsCloseComposed`](mod@FixedMatrix::IsCloseComposed), [`IsCloseInTurn`](mod@FixedMatrix::IsCloseInTurn).
-    pub mod FixedMatrix {
-        use crate::definitions::font_base::Wrap::{FitsBits, wrap};
-        use crate::definitions::font_decimal::Near::Near as near;
+    /// In the order of `crates/font_geom/specs/FixedMatrix.antt`: [`matrix_bits`](mod@FixedMatrix_antt::matrix_bits), [`point_bits`](mod@FixedMatrix_antt::point_bits), [`bits_of_point`](mod@FixedMatrix_antt::bits_of_point), [`rounded_product`](mod@FixedMatrix_antt::rounded_product), [`rounded_image`](mod@FixedMatrix_antt::rounded_image), [`rounded_matrix_product`](mod@FixedMatrix_antt::rounded_matrix_product), [`wrapped_product`](mod@FixedMatrix_antt::wrapped_product), [`wrapped_sum`](mod@FixedMatrix_antt::wrapped_sum), [`fixed_product`](mod@FixedMatrix_antt::fixed_product), [`ProductsAssociate`](mod@FixedMatrix_antt::ProductsAssociate), [`FitsPoint`](mod@FixedMatrix_antt::FitsPoint), [`FitsComposed`](mod@FixedMatrix_antt::FitsComposed), [`FitsInTurn`](mod@FixedMatrix_antt::FitsInTurn), [`exact_row`](mod@FixedMatrix_antt::exact_row), [`IsCloseImage`](mod@FixedMatrix_antt::IsCloseImage), [`exact_coordinate`](mod@FixedMatrix_antt::exact_coordinate), [`exact_image`](mod@FixedMatrix_antt::exact_image), [`IsWithin`](mod@FixedMatrix_antt::IsWithin), [`IsCloseComposed`](mod@FixedMatrix_antt::IsCloseComposed), [`IsCloseInTurn`](mod@FixedMatrix_antt::IsCloseInTurn).
+    pub mod FixedMatrix_antt {
+        use crate::definitions::font_base::Wrap_antt::{FitsBits, wrap};
+        use crate::definitions::font_decimal::Near_antt::Near as near;
         use crate::definitions::font_fixed::{
-            Fixed::{Fixed, fixed_bits, fixed_of},
-            FixedI32::bits_of,
+            Fixed_antt::{fixed_bits, fixed_of},
+            FixedI32_antt::bits_of,
         };
-        use crate::definitions::font_geom::Matrix::{FitsEach, image_of, matrix_product};
+        use crate::definitions::font_geom::Matrix_antt::{FitsEach, image_of, matrix_product};
         /// the raw value of each element, and of each coordinate
         ///
         /// ```text
@@ -2096,7 +2051,7 @@ pub mod font_geom {
         ///   dy = fixed_bits m.dy;
         /// }
         /// ```
-        /// [`Fixed`], [`fixed_bits`]
+        /// [`fixed_bits`]
         pub mod matrix_bits {}
 
         /// the raw value of each element, and of each coordinate
@@ -2105,7 +2060,7 @@ pub mod font_geom {
         /// abbrev point_bits : Point Fixed → Point ℤ
         /// point_bits p = record { x = fixed_bits p.x; y = fixed_bits p.y }
         /// ```
-        /// [`Fixed`], [`fixed_bits`]
+        /// [`fixed_bits`]
         pub mod point_bits {}
 
         /// the same of a point of any format of 32 bits
@@ -2168,7 +2123,7 @@ pub mod font_geom {
         /// abbrev fixed_product : Fixed → Fixed → Fixed
         /// fixed_product x y = fixed_of (wrapped_product (fixed_bits x) (fixed_bits y))
         /// ```
-        /// [`Fixed`], [`fixed_of`], [`wrapped_product`], [`fixed_bits`]
+        /// [`fixed_of`], [`wrapped_product`], [`fixed_bits`]
         pub mod fixed_product {}
 
         /// products are associative, as in a ring; those of `Fixed` are not
@@ -2177,7 +2132,7 @@ pub mod font_geom {
         /// abbrev ProductsAssociate : Type 0
         /// ProductsAssociate = (x y z : Fixed) → fixed_product (fixed_product x y) z ≡ fixed_product x (fixed_product y z)
         /// ```
-        /// [`Fixed`], [`fixed_product`]
+        /// [`fixed_product`]
         pub mod ProductsAssociate {}
 
         /// both coordinates fit in 32 bits
@@ -2279,8 +2234,8 @@ pub mod font_geom {
 
     /// Affine transformations of the plane, over any element type.
     ///
-    /// In the order of `crates/font_geom/specs/Matrix.antt`: [`elements_of`](mod@Matrix::elements_of), [`FitsEach`](mod@Matrix::FitsEach), [`identity_matrix`](mod@Matrix::identity_matrix), [`IsLinearForm`](mod@Matrix::IsLinearForm), [`IsAffineForm`](mod@Matrix::IsAffineForm), [`IsTransformed`](mod@Matrix::IsTransformed), [`IsProductOf`](mod@Matrix::IsProductOf), [`CanTakeLinearForm`](mod@Matrix::CanTakeLinearForm), [`CanTakeAffineForm`](mod@Matrix::CanTakeAffineForm), [`CanTransform`](mod@Matrix::CanTransform), [`CanMultiply`](mod@Matrix::CanMultiply), [`linear_form`](mod@Matrix::linear_form), [`affine_form`](mod@Matrix::affine_form), [`image_of`](mod@Matrix::image_of), [`matrix_product`](mod@Matrix::matrix_product).
-    pub mod Matrix {
+    /// In the order of `crates/font_geom/specs/Matrix.antt`: [`elements_of`](mod@Matrix_antt::elements_of), [`FitsEach`](mod@Matrix_antt::FitsEach), [`identity_matrix`](mod@Matrix_antt::identity_matrix), [`IsLinearForm`](mod@Matrix_antt::IsLinearForm), [`IsAffineForm`](mod@Matrix_antt::IsAffineForm), [`IsTransformed`](mod@Matrix_antt::IsTransformed), [`IsProductOf`](mod@Matrix_antt::IsProductOf), [`CanTakeLinearForm`](mod@Matrix_antt::CanTakeLinearForm), [`CanTakeAffineForm`](mod@Matrix_antt::CanTakeAffineForm), [`CanTransform`](mod@Matrix_antt::CanTransform), [`CanMultiply`](mod@Matrix_antt::CanMultiply), [`linear_form`](mod@Matrix_antt::linear_form), [`affine_form`](mod@Matrix_antt::affine_form), [`image_of`](mod@Matrix_antt::image_of), [`matrix_product`](mod@Matrix_antt::matrix_product).
+    pub mod Matrix_antt {
         /// the elements in the order of `elements`
         ///
         /// ```text
@@ -2462,8 +2417,8 @@ pub mod font_geom {
 
     /// Elements that form a ring (without negation), so that products of their matrices are associative.
     ///
-    /// In the order of `crates/font_geom/specs/Ring.antt`: [`RingLaws`](mod@Ring::RingLaws).
-    pub mod Ring {
+    /// In the order of `crates/font_geom/specs/Ring.antt`: [`RingLaws`](mod@Ring_antt::RingLaws).
+    pub mod Ring_antt {
         /// Addition is associative and commutative, with `zero` neutral. Multiplication is associative, with `one` neutral and
         /// `zero` absorbing on both sides, and distributes over addition on both sides.
         ///
@@ -2487,10 +2442,10 @@ pub mod font_geom {
     /// FT_Size_Metrics, "x_scale: a 16.16 fractional scaling value used to convert horizontal metrics from font units to
     /// 26.6 fractional pixels").
     ///
-    /// In the order of `crates/font_geom/specs/Scale.antt`: [`scale_bits`](mod@Scale::scale_bits), [`factor_of`](mod@Scale::factor_of), [`IsCloseScaled`](mod@Scale::IsCloseScaled).
-    pub mod Scale {
-        use crate::definitions::font_decimal::Near::Near as near;
-        use crate::definitions::font_fixed::Fixed::fixed_bits;
+    /// In the order of `crates/font_geom/specs/Scale.antt`: [`scale_bits`](mod@Scale_antt::scale_bits), [`factor_of`](mod@Scale_antt::factor_of), [`IsCloseScaled`](mod@Scale_antt::IsCloseScaled).
+    pub mod Scale_antt {
+        use crate::definitions::font_decimal::Near_antt::Near as near;
+        use crate::definitions::font_fixed::Fixed_antt::fixed_bits;
         /// the raw value of the factor
         ///
         /// ```text
@@ -2528,13 +2483,13 @@ pub mod font_types {
     /// A joined list has the sum of both, and the order of the terms does not matter (lemmas `total-append`,
     /// `total-permuted`).
     ///
-    /// In the order of `crates/font_types/specs/Delta.antt`: [`total`](mod@Delta::total), [`term_product`](mod@Delta::term_product), [`exact_sum`](mod@Delta::exact_sum), [`scaled`](mod@Delta::scaled).
-    pub mod Delta {
-        use crate::definitions::font_base::Wrap::half_range;
-        use crate::definitions::font_decimal::Near::signed;
+    /// In the order of `crates/font_types/specs/Delta.antt`: [`total`](mod@Delta_antt::total), [`term_product`](mod@Delta_antt::term_product), [`exact_sum`](mod@Delta_antt::exact_sum), [`scaled`](mod@Delta_antt::scaled).
+    pub mod Delta_antt {
+        use crate::definitions::font_base::Wrap_antt::half_range;
+        use crate::definitions::font_decimal::Near_antt::signed;
         use crate::definitions::font_fixed::{
-            Fixed::{Fixed, fixed_bits},
-            Operations::{differ_in_sign, rounded_mul_div},
+            Fixed_antt::fixed_bits,
+            Operations_antt::{differ_in_sign, rounded_mul_div},
         };
         /// the exact sum of an integer for each element of a list
         ///
@@ -2550,7 +2505,7 @@ pub mod font_types {
         /// abbrev term_product : Fixed × ℤ → ℤ
         /// term_product term = fixed_bits term.0 *ℤ term.1
         /// ```
-        /// [`Fixed`], [`fixed_bits`]
+        /// [`fixed_bits`]
         pub mod term_product {}
 
         /// the exact sum of the products, as a 16.16 raw value
@@ -2559,7 +2514,7 @@ pub mod font_types {
         /// abbrev exact_sum : List (Fixed × ℤ) → ℤ
         /// exact_sum terms = total term_product terms
         /// ```
-        /// [`Fixed`], [`total`], [`term_product`]
+        /// [`total`], [`term_product`]
         pub mod exact_sum {}
 
         /// the raw value of a number that is scaled by a / c and rounded; if c is 0, the greatest, with the sign of the product
@@ -2570,14 +2525,14 @@ pub mod font_types {
         /// scaled a (pos (suc c)) x = rounded_mul_div (fixed_bits x) a (pos (suc c))
         /// scaled a (negsuc c) x = rounded_mul_div (fixed_bits x) a (negsuc c)
         /// ```
-        /// [`Fixed`], [`signed`], [`differ_in_sign`], [`fixed_bits`], [`half_range`], [`rounded_mul_div`]
+        /// [`signed`], [`differ_in_sign`], [`fixed_bits`], [`half_range`], [`rounded_mul_div`]
         pub mod scaled {}
     }
 
     /// An accumulator of deltas.
     ///
-    /// In the order of `crates/font_types/specs/DeltaSum.antt`: [`steps_of`](mod@DeltaSum::steps_of).
-    pub mod DeltaSum {
+    /// In the order of `crates/font_types/specs/DeltaSum.antt`: [`steps_of`](mod@DeltaSum_antt::steps_of).
+    pub mod DeltaSum_antt {
         /// the 16.16 raw value of the sum
         ///
         /// ```text

@@ -1,5 +1,8 @@
 """The definitions that contracts name, as pages of rustdoc: a module for each crate, for each file
-of its `specs`, and for each definition. Only rustdoc compiles them."""
+of its `specs`, and for each definition. Only rustdoc compiles them.
+
+That of the file `Fixed.antt` is `Fixed_antt`, and the alias `Fixed` in it has no page: rustdoc's
+search lists a module before a type of the same name."""
 
 import itertools
 import re
@@ -14,6 +17,9 @@ START = re.compile(r"\s*(?:abbrev |unfoldable |record |pub )+(\w+)", re.UNICODE)
 # So begins a `module _`, whose definitions are indented, and have its arguments before their own.
 MODULE = re.compile(r"module _ .*?\bwhere\n", re.DOTALL)
 IMPORT = re.compile(r"^use Rattle\.([\w.]+)\.\{(.*)\}", re.MULTILINE)
+
+# A type that Rust has by the same name.
+ALIAS = re.compile(r"abbrev pub (\w+) : Type 0\n\1 = FixedI\d+ \d+$")
 
 # A file of another crate's `specs`, which a crate also has, by its own name or by another.
 EXPORT = re.compile(r"^pub use Rattle\.(\w+)\.specs\.(\w+)(?: as (\w+))?$", re.MULTILINE)
@@ -54,6 +60,8 @@ def read(root: Path, crates: list[str]) -> tuple[Definitions, dict[str, str], di
                 comment = comment_of(whole) or comment
                 block = re.sub(r"(?m)\A(--.*\n)*", "", whole)
                 if not (name := START.match(block)) or block.startswith("pub mod"):
+                    continue
+                if ALIAS.match(block):
                     continue
                 path = f"{module}::{name[1]}"
                 pages[path] = next((it for it in pages if it.lower() == path.lower()), path)
@@ -149,7 +157,7 @@ def pages(definitions: Definitions, heads: dict[str, str], wanted: Iterable[str]
             rust += f"/// Definitions of the crate `{of}`.\npub mod {of} {{\n"
             crate = of
         names = [path.rpartition("::")[2] for path in own]
-        order = ", ".join(f"[`{name}`](mod@{file}::{name})" for name in names)
+        order = ", ".join(f"[`{name}`](mod@{file}_antt::{name})" for name in names)
         rust += docs(f"{head}\n\nIn the order of `crates/{of}/specs/{file}.antt`: {order}.")
         others = {
             (name, other)
@@ -157,7 +165,7 @@ def pages(definitions: Definitions, heads: dict[str, str], wanted: Iterable[str]
             for name, other in definitions[path].names.items()
             if other != f"{module}::{name}"
         }
-        rust += f"pub mod {file} {{\n{imports(others)}"
+        rust += f"pub mod {file}_antt {{\n{imports(others)}"
         rust += "".join(page(path, definitions[path]) for path in own) + "}\n\n"
     return rust + "}\n"
 
@@ -171,7 +179,7 @@ def imports(names: Iterable[tuple[str, str]]) -> str:
         crates.setdefault(crate, {}).setdefault(file, []).append(own)
     uses = ""
     for crate, files in crates.items():
-        items = ", ".join(f"{file}::{{{', '.join(own)}}}" for file, own in files.items())
+        items = ", ".join(f"{file}_antt::{{{', '.join(own)}}}" for file, own in files.items())
         uses += f"use crate::definitions::{crate}::{{{items}}};\n"
     return uses
 

@@ -190,6 +190,17 @@ class Pages(unittest.TestCase):
         rows = re.findall(r"\n\| \[(\w+)\]\(\S+/specs\) \|", text("docs/EVIDENCE.md"))
         self.assertEqual({*rows, "callers", "font_fixed2"}, crates)
 
+    def test_names_of_definitions(self) -> None:
+        """No page of a definition or of its file has the name of a type or a trait, which the
+        search of the documentation would list after it."""
+        for package in GENERATED:
+            rust = {path: text(path) for path in of(package, ".rs")}
+            pages = set(re.findall(r"pub mod (\w+)", rust.pop(f"{package}definitions.rs")))
+            types = r"^pub (?:enum|struct|trait|type) (\w+)"
+            items = set(re.findall(types, "".join(rust.values()), re.M))
+            self.assertGreater(len(items), 5)
+            self.assertEqual(pages & items, set(), package)
+
     def test_signs_and_words_of_contracts(self) -> None:
         """The legend has each sign, each member of a callback, each case of an `Option` or a
         `Result`, and each word of Rattle's std, that contracts and definitions use."""
@@ -229,6 +240,8 @@ class Pages(unittest.TestCase):
             shown = "".join(text(path) for path in of(package, ".rs"))
             clauses = "".join(re.findall(r"/// ```text\n(.*?)/// ```", shown, re.DOTALL))
             pages = set(re.findall(defined, clauses.replace("///", "")))
+            # The name of an alias is that of a type of Rust, which has its page.
+            pages |= set(re.findall(r"(?m)^pub type (\w+)", shown))
             self.assertFalse(names & words(re.sub(r"\w+\.\w+", "", clauses)) - pages, package)
             for head in re.findall(r"(?m)^module _ [^\n]*", "\n".join(sources)):
                 self.assertIn(f"/// {head}\n", clauses)

@@ -4,11 +4,11 @@
 
 #[cfg(doc)]
 use crate::definitions::font_base::{
-    Array::{
+    Array_antt::{
         IsPartitionPoint, IsSearched, array_bytes, array_elements, array_len, element_bytes,
         elements_left,
     },
-    Elements::AreRaw,
+    Elements_antt::AreRaw,
 };
 
 use crate::font_base::raw::{BeByteArray, ByteChunks, Scalar};

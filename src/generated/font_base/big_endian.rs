@@ -3,7 +3,7 @@
 //! Big-endian fields.
 
 #[cfg(doc)]
-use crate::definitions::font_base::BigEndian::raw_value;
+use crate::definitions::font_base::BigEndian_antt::raw_value;
 
 use crate::font_base::raw::{BeByteArray, FixedSize, IdentityEq, Scalar};
 use core::cmp::Ordering;

@@ -4,8 +4,8 @@
 
 #[cfg(doc)]
 use crate::definitions::font_base::{
-    Bytes::{bytes_of, signed_numeral},
-    Int24::{INT24_MAX, INT24_MIN, bytes_of_int24, int24_number, int24_of_bytes},
+    Bytes_antt::{bytes_of, signed_numeral},
+    Int24_antt::{INT24_MAX, INT24_MIN, bytes_of_int24, int24_number, int24_of_bytes},
 };
 
 use crate::font_base::raw::{FixedSize, IdentityEq, Scalar};

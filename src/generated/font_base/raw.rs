@@ -4,10 +4,10 @@
 
 #[cfg(doc)]
 use crate::definitions::font_base::{
-    Bytes::{are_bytes, bytes_of, numeral, signed_numeral},
-    Elements::AreRaw,
-    Scalar::{IsValueOf, ScalarLaws},
-    Wrap::fits_bits,
+    Bytes_antt::{are_bytes, bytes_of, numeral, signed_numeral},
+    Elements_antt::AreRaw,
+    Scalar_antt::{IsValueOf, ScalarLaws},
+    Wrap_antt::fits_bits,
 };
 
 /// A fixed-size big-endian byte array.

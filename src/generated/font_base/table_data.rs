@@ -3,7 +3,7 @@
 //! Table data with a fixed-size header.
 
 #[cfg(doc)]
-use crate::definitions::font_base::TableData::{IsSampleHeader, table_bytes};
+use crate::definitions::font_base::TableData_antt::{IsSampleHeader, table_bytes};
 
 use crate::font_base::big_endian::BigEndian;
 use core::marker::PhantomData;

@@ -4,8 +4,8 @@
 
 #[cfg(doc)]
 use crate::definitions::font_base::{
-    Bytes::{bytes_of, numeral},
-    Uint24::{UINT24_MAX, bytes_of_uint24, uint24_number, uint24_of_bytes},
+    Bytes_antt::{bytes_of, numeral},
+    Uint24_antt::{UINT24_MAX, bytes_of_uint24, uint24_number, uint24_of_bytes},
 };
 
 use crate::font_base::raw::{FixedSize, IdentityEq, Scalar};

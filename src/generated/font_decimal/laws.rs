@@ -4,10 +4,10 @@
 
 #[cfg(doc)]
 use crate::definitions::font_decimal::{
-    Grammar::Tidy,
-    Reading::{IsAtMost, Parses, Reads},
-    Shortest::shortest_text,
-    Shown::shown,
+    Grammar_antt::Tidy,
+    Reading_antt::{IsAtMost, Parses, Reads},
+    Shortest_antt::shortest_text,
+    Shown_antt::shown,
 };
 
 use crate::font_decimal::{DecimalFault, Shortest, read_decimal};

@@ -2,7 +2,7 @@
 
 //! Padding a decimal to a width.
 #[cfg(doc)]
-use crate::definitions::font_decimal::Padding::{FillsFront, padded_text};
+use crate::definitions::font_decimal::Padding_antt::{FillsFront, padded_text};
 
 /// The alignment of text that is shorter than the width.
 ///

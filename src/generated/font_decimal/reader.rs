@@ -4,8 +4,8 @@
 
 #[cfg(doc)]
 use crate::definitions::font_decimal::{
-    Grammar::IsNoDecimal,
-    Reading::{IsOutOfRange, Parses, Reads},
+    Grammar_antt::IsNoDecimal,
+    Reading_antt::{IsOutOfRange, Parses, Reads},
 };
 
 use crate::font_decimal::grammar::{after_point, are_digits, split_sign};

@@ -4,9 +4,9 @@
 
 #[cfg(doc)]
 use crate::definitions::font_decimal::{
-    Padding::{has_minus, unsigned_body},
-    Shortest::{IsShortest, shortest_text},
-    Shown::shown,
+    Padding_antt::{has_minus, unsigned_body},
+    Shortest_antt::{IsShortest, shortest_text},
+    Shown_antt::shown,
 };
 
 use core::fmt;

@@ -4,24 +4,24 @@
 
 #[cfg(doc)]
 use crate::definitions::font_base::{
-    Bytes::{bytes_of, signed_numeral},
-    Wrap::{FitsBits, fits_bits},
+    Bytes_antt::{bytes_of, signed_numeral},
+    Wrap_antt::{FitsBits, fits_bits},
 };
 #[cfg(doc)]
 use crate::definitions::font_decimal::{
-    Padding::{FillsFront, has_minus, padded_text, unsigned_body},
-    Shortest::IsShortest,
-    Shown::shown,
+    Padding_antt::{FillsFront, has_minus, padded_text, unsigned_body},
+    Shortest_antt::IsShortest,
+    Shown_antt::shown,
 };
 #[cfg(doc)]
 use crate::definitions::font_fixed::{
-    FixedI16::{bits_of, of_bits, text_of},
-    Longest::longest,
-    Operations::{
+    FixedI16_antt::{bits_of, of_bits, text_of},
+    Longest_antt::longest,
+    Operations_antt::{
         IsCeiling, IsFloor, IsFract, IsNearestWhole, IsWrappedCeiling, WrapsTo, ceiling_of, clamp,
     },
-    Reading::ParsesFixedPoint,
-    Rounding::rounded,
+    Reading_antt::ParsesFixedPoint,
+    Rounding_antt::rounded,
 };
 
 use crate::font_decimal::{DecimalFault, Pad, Shortest};

@@ -3,22 +3,22 @@
 //! 32-bit fixed-point numbers.
 
 #[cfg(doc)]
-use crate::definitions::font_base::{Bytes::bytes_of, Wrap::FitsBits};
+use crate::definitions::font_base::{Bytes_antt::bytes_of, Wrap_antt::FitsBits};
 #[cfg(doc)]
 use crate::definitions::font_decimal::{
-    Padding::{FillsFront, has_minus, padded_text, unsigned_body},
-    Shortest::IsShortest,
-    Shown::shown,
+    Padding_antt::{FillsFront, has_minus, padded_text, unsigned_body},
+    Shortest_antt::IsShortest,
+    Shown_antt::shown,
 };
 #[cfg(doc)]
 use crate::definitions::font_fixed::{
-    FixedI32::{bits_of, text_of},
-    Longest::longest,
-    Operations::{
+    FixedI32_antt::{bits_of, text_of},
+    Longest_antt::longest,
+    Operations_antt::{
         IsCeiling, IsFloor, IsFract, IsNearestWhole, IsWrappedCeiling, WrapsTo, ceiling_of, clamp,
     },
-    Reading::ParsesFixedPoint,
-    Rounding::rounded,
+    Reading_antt::ParsesFixedPoint,
+    Rounding_antt::rounded,
 };
 
 use crate::font_decimal::{DecimalFault, Pad, Shortest};

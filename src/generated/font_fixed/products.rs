@@ -3,11 +3,11 @@
 //! Products and quotients of 32-bit fixed-point numbers, over their raw bits.
 
 #[cfg(doc)]
-use crate::definitions::font_base::Wrap::wrap;
+use crate::definitions::font_base::Wrap_antt::wrap;
 #[cfg(doc)]
-use crate::definitions::font_decimal::Near::{Near as near, signed};
+use crate::definitions::font_decimal::Near_antt::{Near as near, signed};
 #[cfg(doc)]
-use crate::definitions::font_fixed::Operations::{
+use crate::definitions::font_fixed::Operations_antt::{
     IsMulDiv, IsProduct, differ_in_sign, rounded_mul_div,
 };
 

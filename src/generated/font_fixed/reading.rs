@@ -3,7 +3,7 @@
 //! Parsing decimals to the raw bits of fixed-point numbers.
 
 #[cfg(doc)]
-use crate::definitions::font_fixed::Reading::ParsesFixedPoint;
+use crate::definitions::font_fixed::Reading_antt::ParsesFixedPoint;
 
 use crate::font_decimal::{DecimalFault, read_decimal_bytes};
 

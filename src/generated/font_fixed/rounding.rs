@@ -3,11 +3,11 @@
 //! Rounding the raw bits of fixed-point numbers to integers.
 
 #[cfg(doc)]
-use crate::definitions::font_base::Wrap::FitsBits;
+use crate::definitions::font_base::Wrap_antt::FitsBits;
 #[cfg(doc)]
-use crate::definitions::font_decimal::Near::Up as up;
+use crate::definitions::font_decimal::Near_antt::Up as up;
 #[cfg(doc)]
-use crate::definitions::font_fixed::{Operations::IsFloor, Rounding::rounded};
+use crate::definitions::font_fixed::{Operations_antt::IsFloor, Rounding_antt::rounded};
 
 /// Returns the raw value of the largest integer less than or equal to a 16-bit value with `f`
 /// fraction bits.

@@ -3,7 +3,7 @@
 //! Axis-aligned bounding boxes.
 
 #[cfg(doc)]
-use crate::definitions::font_geom::BoundingBox::{
+use crate::definitions::font_geom::BoundingBox_antt::{
     CanScale, Compares, HasSamePairs, IsScaled, is_normalized, normalized_box,
 };
 

@@ -3,17 +3,17 @@
 //! Laws of matrices, as contracts of functions that make the calls and return their results.
 
 #[cfg(doc)]
-use crate::definitions::font_base::Wrap::FitsBits;
+use crate::definitions::font_base::Wrap_antt::FitsBits;
 #[cfg(doc)]
-use crate::definitions::font_fixed::{F26Dot6::f26dot6_bits, Fixed::fixed_bits};
+use crate::definitions::font_fixed::{F26Dot6_antt::f26dot6_bits, Fixed_antt::fixed_bits};
 #[cfg(doc)]
 use crate::definitions::font_geom::{
-    FixedMatrix::{
+    FixedMatrix_antt::{
         FitsComposed, FitsInTurn, FitsPoint, IsCloseComposed, IsCloseImage, IsCloseInTurn,
         ProductsAssociate, matrix_bits, point_bits, rounded_product, wrapped_product, wrapped_sum,
     },
-    Matrix::{identity_matrix, image_of, matrix_product},
-    Scale::{IsCloseScaled, factor_of},
+    Matrix_antt::{identity_matrix, image_of, matrix_product},
+    Scale_antt::{IsCloseScaled, factor_of},
 };
 
 use crate::font_fixed::{F26Dot6, Fixed};

@@ -3,14 +3,14 @@
 //! Affine matrices.
 
 #[cfg(doc)]
-use crate::definitions::font_base::Wrap::FitsBits;
+use crate::definitions::font_base::Wrap_antt::FitsBits;
 #[cfg(doc)]
 use crate::definitions::font_geom::{
-    Calls::{CallsEach, CanCallEach},
-    FixedMatrix::{
+    Calls_antt::{CallsEach, CanCallEach},
+    FixedMatrix_antt::{
         FitsPoint, bits_of_point, matrix_bits, point_bits, rounded_image, rounded_matrix_product,
     },
-    Matrix::{
+    Matrix_antt::{
         CanMultiply, CanTransform, FitsEach, IsProductOf, IsTransformed, elements_of,
         identity_matrix,
     },

@@ -3,11 +3,11 @@
 //! Two-dimensional points.
 
 #[cfg(doc)]
-use crate::definitions::font_base::Wrap::FitsBits;
+use crate::definitions::font_base::Wrap_antt::FitsBits;
 #[cfg(doc)]
-use crate::definitions::font_fixed::FixedI32::bits_of;
+use crate::definitions::font_fixed::FixedI32_antt::bits_of;
 #[cfg(doc)]
-use crate::definitions::font_geom::Calls::{CallsEach, CanCallEach};
+use crate::definitions::font_geom::Calls_antt::{CallsEach, CanCallEach};
 
 use crate::font_fixed::FixedI32;
 use core::ops::{Add, AddAssign, Div, DivAssign, Mul, MulAssign, Neg, Sub, SubAssign};

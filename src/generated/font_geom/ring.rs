@@ -3,7 +3,7 @@
 //! Matrix elements that form a ring.
 
 #[cfg(doc)]
-use crate::definitions::font_geom::Ring::RingLaws;
+use crate::definitions::font_geom::Ring_antt::RingLaws;
 
 use crate::font_geom::MatrixElement;
 

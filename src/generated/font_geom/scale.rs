@@ -3,13 +3,13 @@
 //! Scales of outlines.
 
 #[cfg(doc)]
-use crate::definitions::font_base::Wrap::FitsBits;
+use crate::definitions::font_base::Wrap_antt::FitsBits;
 #[cfg(doc)]
-use crate::definitions::font_fixed::{F26Dot6::f26dot6_bits, Fixed::fixed_bits};
+use crate::definitions::font_fixed::{F26Dot6_antt::f26dot6_bits, Fixed_antt::fixed_bits};
 #[cfg(doc)]
 use crate::definitions::font_geom::{
-    FixedMatrix::{FitsPoint, rounded_product},
-    Scale::{factor_of, scale_bits},
+    FixedMatrix_antt::{FitsPoint, rounded_product},
+    Scale_antt::{factor_of, scale_bits},
 };
 
 use crate::font_fixed::{F26Dot6, Fixed, product};

@@ -4,13 +4,13 @@
 
 #[cfg(doc)]
 use crate::definitions::font_base::{
-    Bytes::{bytes_of, numeral, signed_numeral},
-    Wrap::{FitsBits, fits_bits, wrap},
+    Bytes_antt::{bytes_of, numeral, signed_numeral},
+    Wrap_antt::{FitsBits, fits_bits, wrap},
 };
 #[cfg(doc)]
-use crate::definitions::font_fixed::{F48Dot16::f48dot16_bits, Fixed::fixed_bits};
+use crate::definitions::font_fixed::{F48Dot16_antt::f48dot16_bits, Fixed_antt::fixed_bits};
 #[cfg(doc)]
-use crate::definitions::font_ids::FWord::{
+use crate::definitions::font_ids::FWord_antt::{
     fword_number, fword_of, nearest_unit, ufword_number, ufword_of,
 };
 

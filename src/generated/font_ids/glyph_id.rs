@@ -4,11 +4,11 @@
 
 #[cfg(doc)]
 use crate::definitions::font_base::{
-    Bytes::{bytes_of, numeral},
-    Uint24::{UINT24_MAX, bytes_of_uint24, uint24_of_bytes},
+    Bytes_antt::{bytes_of, numeral},
+    Uint24_antt::{UINT24_MAX, bytes_of_uint24, uint24_of_bytes},
 };
 #[cfg(doc)]
-use crate::definitions::font_ids::GlyphId::{
+use crate::definitions::font_ids::GlyphId_antt::{
     glyph_number, glyph_text, glyph16_number, glyph16_of, glyph24_number, glyph24_of,
     refused_number,
 };

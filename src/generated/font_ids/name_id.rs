@@ -3,9 +3,9 @@
 //! Name ids of the `name` table.
 
 #[cfg(doc)]
-use crate::definitions::font_base::Bytes::{bytes_of, numeral};
+use crate::definitions::font_base::Bytes_antt::{bytes_of, numeral};
 #[cfg(doc)]
-use crate::definitions::font_ids::NameId::{
+use crate::definitions::font_ids::NameId_antt::{
     last_allowed, last_reserved, name_id_of, name_number, name_text, predefined_left,
     predefined_numbers,
 };

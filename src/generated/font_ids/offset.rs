@@ -4,11 +4,11 @@
 
 #[cfg(doc)]
 use crate::definitions::font_base::{
-    Bytes::{bytes_of, numeral},
-    Uint24::{bytes_of_uint24, uint24_number, uint24_of_bytes},
+    Bytes_antt::{bytes_of, numeral},
+    Uint24_antt::{bytes_of_uint24, uint24_number, uint24_of_bytes},
 };
 #[cfg(doc)]
-use crate::definitions::font_ids::Offset::{
+use crate::definitions::font_ids::Offset_antt::{
     nullable_of, nullable_offset, offset16_number, offset16_of, offset24_number, offset24_of,
     offset32_number, offset32_of,
 };

@@ -4,11 +4,11 @@
 
 #[cfg(doc)]
 use crate::definitions::font_base::{
-    Bytes::{bytes_of, signed_numeral},
-    Wrap::fits_bits,
+    Bytes_antt::{bytes_of, signed_numeral},
+    Wrap_antt::fits_bits,
 };
 #[cfg(doc)]
-use crate::definitions::font_tags::LongDateTime::{date_of, date_seconds};
+use crate::definitions::font_tags::LongDateTime_antt::{date_of, date_seconds};
 
 use crate::font_base::{FixedSize, IdentityEq, Scalar};
 

@@ -3,9 +3,9 @@
 //! Four-byte tags.
 
 #[cfg(doc)]
-use crate::definitions::font_base::Bytes::{are_bytes, bytes_of, numeral};
+use crate::definitions::font_base::Bytes_antt::{are_bytes, bytes_of, numeral};
 #[cfg(doc)]
-use crate::definitions::font_tags::Tag::{
+use crate::definitions::font_tags::Tag_antt::{
     IsAcceptable, IsChecked, IsGood, IsValidated, four_spaces, tag_bytes, tag_of, tag_text,
 };
 

@@ -3,9 +3,9 @@
 //! Table versions.
 
 #[cfg(doc)]
-use crate::definitions::font_base::Bytes::{bytes_of, numeral};
+use crate::definitions::font_base::Bytes_antt::{bytes_of, numeral};
 #[cfg(doc)]
-use crate::definitions::font_tags::Version::{
+use crate::definitions::font_tags::Version_antt::{
     IsCompatible, hex_text, major_minor_bytes, major_minor_of, packed_version, version_bits,
     version_major, version_minor, version_of, version_text,
 };

@@ -3,15 +3,15 @@
 //! Sums of deltas.
 
 #[cfg(doc)]
-use crate::definitions::font_base::Wrap::{FitsBits, wrap};
+use crate::definitions::font_base::Wrap_antt::{FitsBits, wrap};
 #[cfg(doc)]
 use crate::definitions::font_fixed::{
-    F48Dot16::f48dot16_bits, Fixed::fixed_bits, Operations::WrapsTo,
+    F48Dot16_antt::f48dot16_bits, Fixed_antt::fixed_bits, Operations_antt::WrapsTo,
 };
 #[cfg(doc)]
-use crate::definitions::font_ids::FWord::fword_number;
+use crate::definitions::font_ids::FWord_antt::fword_number;
 #[cfg(doc)]
-use crate::definitions::font_types::{Delta::exact_sum, DeltaSum::steps_of};
+use crate::definitions::font_types::{Delta_antt::exact_sum, DeltaSum_antt::steps_of};
 
 use crate::font_fixed::{F48Dot16, Fixed};
 use crate::font_ids::FWord;

@@ -3,17 +3,17 @@
 //! Laws, as contracts of functions.
 
 #[cfg(doc)]
-use crate::definitions::font_base::Wrap::{FitsBits, wrap};
+use crate::definitions::font_base::Wrap_antt::{FitsBits, wrap};
 #[cfg(doc)]
 use crate::definitions::font_fixed::{
-    F48Dot16::f48dot16_bits,
-    Fixed::fixed_bits,
-    Operations::{IsMulDiv, rounded_mul_div},
+    F48Dot16_antt::f48dot16_bits,
+    Fixed_antt::fixed_bits,
+    Operations_antt::{IsMulDiv, rounded_mul_div},
 };
 #[cfg(doc)]
 use crate::definitions::font_types::{
-    Delta::{exact_sum, scaled, total},
-    DeltaSum::steps_of,
+    Delta_antt::{exact_sum, scaled, total},
+    DeltaSum_antt::steps_of,
 };
 
 pub use crate::font_decimal::laws::{printed_again, prints_in_order, reads_in_order};

@@ -3,14 +3,14 @@
 //! Advances by a table `HVAR`, from its bytes to a varied advance.
 
 #[cfg(doc)]
-use crate::definitions::font_ids::{FWord::ufword_number, GlyphId::glyph16_number};
+use crate::definitions::font_ids::{FWord_antt::ufword_number, GlyphId_antt::glyph16_number};
 #[cfg(doc)]
 use crate::definitions::variations::{
-    Advances::{
+    Advances_antt::{
         HasData, HasGlyphSet, HasTarget, inner_index, outer_index, regions_of, subtable_of,
         target_of,
     },
-    Variations::{HasNoVaried, HasSet, IsNearAdvance, IsNoVariation, IsVaried},
+    Variations_antt::{HasNoVaried, HasSet, IsNearAdvance, IsNoVariation, IsVaried},
 };
 
 use super::delta_sets::vary_advance;

@@ -7,9 +7,9 @@ pub mod font_decimal {
     /// Decimals: an optional `-`, one or more digits, and optionally a point followed by one or more digits. No plus sign,
     /// exponent or space. OpenType has no such form.
     ///
-    /// In the order of `crates/font_decimal/specs/Grammar.antt`: [`fraction_text`](mod@Grammar::fraction_text), [`HasParts`](mod@Grammar::HasParts), [`Decimal`](mod@Grammar::Decimal), [`IsNoDecimal`](mod@Grammar::IsNoDecimal).
-    pub mod Grammar {
-        use crate::definitions::font_decimal::Near::signed;
+    /// In the order of `crates/font_decimal/specs/Grammar.antt`: [`fraction_text`](mod@Grammar_antt::fraction_text), [`HasParts`](mod@Grammar_antt::HasParts), [`Decimal`](mod@Grammar_antt::Decimal), [`IsNoDecimal`](mod@Grammar_antt::IsNoDecimal).
+    pub mod Grammar_antt {
+        use crate::definitions::font_decimal::Near_antt::signed;
         /// the fraction as written: nothing if it has no digits, otherwise a point and its digits
         ///
         /// ```text
@@ -58,8 +58,8 @@ pub mod font_decimal {
     /// Rounding a fraction to an integer. A fixed-point number with f fraction bits is its raw value over 2^f (OpenType,
     /// data types: Fixed, F2DOT14), so parsing, printing and arithmetic all round an exact fraction n / d with 0 < d.
     ///
-    /// In the order of `crates/font_decimal/specs/Near.antt`: [`signed`](mod@Near::signed), [`Near`](mod@Near::Near), [`near_magnitude`](mod@Near::near_magnitude), [`Up`](mod@Near::Up).
-    pub mod Near {
+    /// In the order of `crates/font_decimal/specs/Near.antt`: [`signed`](mod@Near_antt::signed), [`Near`](mod@Near_antt::Near), [`near_magnitude`](mod@Near_antt::near_magnitude), [`Up`](mod@Near_antt::Up).
+    pub mod Near_antt {
         /// the integer with this magnitude, negated if `negative`
         ///
         /// ```text
@@ -110,11 +110,11 @@ pub mod font_decimal {
 
     /// Parsing a decimal as a multiple of 1 / 2^f.
     ///
-    /// In the order of `crates/font_decimal/specs/Reading.antt`: [`Rounds`](mod@Reading::Rounds), [`Reads`](mod@Reading::Reads), [`IsOutOfRange`](mod@Reading::IsOutOfRange), [`Parses`](mod@Reading::Parses).
-    pub mod Reading {
+    /// In the order of `crates/font_decimal/specs/Reading.antt`: [`Rounds`](mod@Reading_antt::Rounds), [`Reads`](mod@Reading_antt::Reads), [`IsOutOfRange`](mod@Reading_antt::IsOutOfRange), [`Parses`](mod@Reading_antt::Parses).
+    pub mod Reading_antt {
         use crate::definitions::font_decimal::{
-            Grammar::{Decimal, IsNoDecimal},
-            Near::Near,
+            Grammar_antt::{Decimal, IsNoDecimal},
+            Near_antt::Near,
         };
         /// the text is a decimal that rounds to b / 2^f, half away from zero
         ///
@@ -164,9 +164,11 @@ pub mod font_decimal {
 
     /// The shortest decimal of b / 2^f: of all that parse back to b, the nearest with the fewest fractional digits.
     ///
-    /// In the order of `crates/font_decimal/specs/Shortest.antt`: [`nearest_numeral`](mod@Shortest::nearest_numeral), [`reads_back`](mod@Shortest::reads_back), [`places_from`](mod@Shortest::places_from), [`fewest_places`](mod@Shortest::fewest_places), [`last_digits`](mod@Shortest::last_digits), [`decimal_text`](mod@Shortest::decimal_text), [`shortest_text`](mod@Shortest::shortest_text).
-    pub mod Shortest {
-        use crate::definitions::font_decimal::{Grammar::fraction_text, Near::near_magnitude};
+    /// In the order of `crates/font_decimal/specs/Shortest.antt`: [`nearest_numeral`](mod@Shortest_antt::nearest_numeral), [`reads_back`](mod@Shortest_antt::reads_back), [`places_from`](mod@Shortest_antt::places_from), [`fewest_places`](mod@Shortest_antt::fewest_places), [`last_digits`](mod@Shortest_antt::last_digits), [`decimal_text`](mod@Shortest_antt::decimal_text), [`shortest_text`](mod@Shortest_antt::shortest_text).
+    pub mod Shortest_antt {
+        use crate::definitions::font_decimal::{
+            Grammar_antt::fraction_text, Near_antt::near_magnitude,
+        };
         /// the nearest decimal of m / 2^f with p places, times 10^p
         ///
         /// ```text
@@ -240,9 +242,9 @@ pub mod font_base {
     /// Big-endian bytes: every number in a font file is stored with its most significant byte first.
     /// (OpenType, data types: "All OpenType fonts use Motorola-style byte ordering (Big Endian)")
     ///
-    /// In the order of `crates/font_base/specs/Bytes.antt`: [`numeral`](mod@Bytes::numeral), [`signed_numeral`](mod@Bytes::signed_numeral).
-    pub mod Bytes {
-        use crate::definitions::font_base::Wrap::wrap;
+    /// In the order of `crates/font_base/specs/Bytes.antt`: [`numeral`](mod@Bytes_antt::numeral), [`signed_numeral`](mod@Bytes_antt::signed_numeral).
+    pub mod Bytes_antt {
+        use crate::definitions::font_base::Wrap_antt::wrap;
         /// the unsigned integer with these big-endian bytes
         ///
         /// ```text
@@ -263,8 +265,8 @@ pub mod font_base {
 
     /// Wrapping: the low bits of an integer, as a signed integer in two's complement.
     ///
-    /// In the order of `crates/font_base/specs/Wrap.antt`: [`half_range`](mod@Wrap::half_range), [`FitsBits`](mod@Wrap::FitsBits), [`wrap`](mod@Wrap::wrap).
-    pub mod Wrap {
+    /// In the order of `crates/font_base/specs/Wrap.antt`: [`half_range`](mod@Wrap_antt::half_range), [`FitsBits`](mod@Wrap_antt::FitsBits), [`wrap`](mod@Wrap_antt::wrap).
+    pub mod Wrap_antt {
         /// half the number of values of `w` bits
         ///
         /// ```text
@@ -300,23 +302,14 @@ pub mod font_fixed {
     /// 2.14 fixed-point numbers (OpenType, data types: F2DOT14, "16-bit signed fixed number with the low 14 bits of fraction
     /// (2.14)").
     ///
-    /// In the order of `crates/font_fixed/specs/F2Dot14.antt`: [`F2Dot14`](mod@F2Dot14::F2Dot14), [`f2dot14_bits`](mod@F2Dot14::f2dot14_bits), [`f2dot14_of`](mod@F2Dot14::f2dot14_of).
-    pub mod F2Dot14 {
-        /// an `F2Dot14`
-        ///
-        /// ```text
-        /// abbrev F2Dot14 : Type 0
-        /// F2Dot14 = FixedI16 14
-        /// ```
-        pub mod F2Dot14 {}
-
+    /// In the order of `crates/font_fixed/specs/F2Dot14.antt`: [`f2dot14_bits`](mod@F2Dot14_antt::f2dot14_bits), [`f2dot14_of`](mod@F2Dot14_antt::f2dot14_of).
+    pub mod F2Dot14_antt {
         /// the raw value of an `F2Dot14`, its value times 2^14
         ///
         /// ```text
         /// abbrev f2dot14_bits : F2Dot14 → ℤ
         /// f2dot14_bits x = x.0
         /// ```
-        /// [`F2Dot14`]
         pub mod f2dot14_bits {}
 
         /// the `F2Dot14` with this raw value
@@ -325,51 +318,32 @@ pub mod font_fixed {
         /// abbrev f2dot14_of : ℤ → F2Dot14
         /// f2dot14_of bits = record { 0 = bits }
         /// ```
-        /// [`F2Dot14`]
         pub mod f2dot14_of {}
     }
 
     /// 48.16 fixed-point numbers: wide enough for sums of deltas, and not stored in any table.
     ///
-    /// In the order of `crates/font_fixed/specs/F48Dot16.antt`: [`F48Dot16`](mod@F48Dot16::F48Dot16), [`f48dot16_bits`](mod@F48Dot16::f48dot16_bits).
-    pub mod F48Dot16 {
-        /// an `F48Dot16`
-        ///
-        /// ```text
-        /// abbrev F48Dot16 : Type 0
-        /// F48Dot16 = FixedI64 16
-        /// ```
-        pub mod F48Dot16 {}
-
+    /// In the order of `crates/font_fixed/specs/F48Dot16.antt`: [`f48dot16_bits`](mod@F48Dot16_antt::f48dot16_bits).
+    pub mod F48Dot16_antt {
         /// the raw value of an `F48Dot16`, its value times 2^16
         ///
         /// ```text
         /// abbrev f48dot16_bits : F48Dot16 → ℤ
         /// f48dot16_bits x = x.0
         /// ```
-        /// [`F48Dot16`]
         pub mod f48dot16_bits {}
     }
 
     /// 16.16 fixed-point numbers (OpenType, data types: Fixed, "32-bit signed fixed-point number (16.16)").
     ///
-    /// In the order of `crates/font_fixed/specs/Fixed.antt`: [`Fixed`](mod@Fixed::Fixed), [`fixed_bits`](mod@Fixed::fixed_bits), [`fixed_of`](mod@Fixed::fixed_of), [`ONE`](mod@Fixed::ONE), [`NEG_ONE`](mod@Fixed::NEG_ONE).
-    pub mod Fixed {
-        /// a `Fixed`
-        ///
-        /// ```text
-        /// abbrev Fixed : Type 0
-        /// Fixed = FixedI32 16
-        /// ```
-        pub mod Fixed {}
-
+    /// In the order of `crates/font_fixed/specs/Fixed.antt`: [`fixed_bits`](mod@Fixed_antt::fixed_bits), [`fixed_of`](mod@Fixed_antt::fixed_of), [`ONE`](mod@Fixed_antt::ONE), [`NEG_ONE`](mod@Fixed_antt::NEG_ONE).
+    pub mod Fixed_antt {
         /// the raw value of a `Fixed`, its value times 2^16
         ///
         /// ```text
         /// abbrev fixed_bits : Fixed → ℤ
         /// fixed_bits x = x.0
         /// ```
-        /// [`Fixed`]
         pub mod fixed_bits {}
 
         /// the `Fixed` with this raw value
@@ -378,7 +352,6 @@ pub mod font_fixed {
         /// abbrev fixed_of : ℤ → Fixed
         /// fixed_of bits = record { 0 = bits }
         /// ```
-        /// [`Fixed`]
         pub mod fixed_of {}
 
         /// constants that clauses name after `ghost use` of this module: `Fixed.ONE`
@@ -387,7 +360,7 @@ pub mod font_fixed {
         /// abbrev ONE : Fixed
         /// ONE = fixed_of (pos (2 ^ 16))
         /// ```
-        /// [`Fixed`], [`fixed_of`]
+        /// [`fixed_of`]
         pub mod ONE {}
 
         /// constants that clauses name after `ghost use` of this module: `Fixed.ONE`
@@ -396,19 +369,19 @@ pub mod font_fixed {
         /// abbrev NEG_ONE : Fixed
         /// NEG_ONE = fixed_of (neg_ℤ (pos (2 ^ 16)))
         /// ```
-        /// [`Fixed`], [`fixed_of`]
+        /// [`fixed_of`]
         pub mod NEG_ONE {}
     }
 
     /// The operations of fixed-point numbers, over their raw values. A w-bit number with f fraction bits is its raw value
     /// over 2^f (OpenType, data types: Fixed is 16.16, F2DOT14 is 2.14).
     ///
-    /// In the order of `crates/font_fixed/specs/Operations.antt`: [`wrapped_near`](mod@Operations::wrapped_near), [`IsWrappedNear`](mod@Operations::IsWrappedNear), [`narrowed`](mod@Operations::narrowed), [`IsNarrowed`](mod@Operations::IsNarrowed), [`least`](mod@Operations::least), [`greatest`](mod@Operations::greatest), [`ReadsBits`](mod@Operations::ReadsBits), [`IsTooFar`](mod@Operations::IsTooFar), [`ParsesBits`](mod@Operations::ParsesBits), [`differ_in_sign`](mod@Operations::differ_in_sign), [`IsMulDiv`](mod@Operations::IsMulDiv), [`IsQuotient`](mod@Operations::IsQuotient), [`rounded_mul_div`](mod@Operations::rounded_mul_div).
-    pub mod Operations {
-        use crate::definitions::font_base::Wrap::{half_range, wrap};
+    /// In the order of `crates/font_fixed/specs/Operations.antt`: [`wrapped_near`](mod@Operations_antt::wrapped_near), [`IsWrappedNear`](mod@Operations_antt::IsWrappedNear), [`narrowed`](mod@Operations_antt::narrowed), [`IsNarrowed`](mod@Operations_antt::IsNarrowed), [`least`](mod@Operations_antt::least), [`greatest`](mod@Operations_antt::greatest), [`ReadsBits`](mod@Operations_antt::ReadsBits), [`IsTooFar`](mod@Operations_antt::IsTooFar), [`ParsesBits`](mod@Operations_antt::ParsesBits), [`differ_in_sign`](mod@Operations_antt::differ_in_sign), [`IsMulDiv`](mod@Operations_antt::IsMulDiv), [`IsQuotient`](mod@Operations_antt::IsQuotient), [`rounded_mul_div`](mod@Operations_antt::rounded_mul_div).
+    pub mod Operations_antt {
+        use crate::definitions::font_base::Wrap_antt::{half_range, wrap};
         use crate::definitions::font_decimal::{
-            Near::{Near, Near as near, Up, Up as up, signed},
-            Reading::{IsOutOfRange, Parses, Reads},
+            Near_antt::{Near, Near as near, Up, Up as up, signed},
+            Reading_antt::{IsOutOfRange, Parses, Reads},
         };
         /// n / d rounded half away from zero and wrapped to w bits
         ///
@@ -539,10 +512,12 @@ pub mod font_fixed {
 
     /// Parsing a decimal as a value of a fixed-point type.
     ///
-    /// In the order of `crates/font_fixed/specs/Reading.antt`: [`ParsesFixedPoint`](mod@Reading::ParsesFixedPoint).
-    pub mod Reading {
-        use crate::definitions::font_decimal::{Grammar::IsNoDecimal, Shortest::shortest_text};
-        use crate::definitions::font_fixed::Operations::{IsTooFar, ParsesBits, ReadsBits};
+    /// In the order of `crates/font_fixed/specs/Reading.antt`: [`ParsesFixedPoint`](mod@Reading_antt::ParsesFixedPoint).
+    pub mod Reading_antt {
+        use crate::definitions::font_decimal::{
+            Grammar_antt::IsNoDecimal, Shortest_antt::shortest_text,
+        };
+        use crate::definitions::font_fixed::Operations_antt::{IsTooFar, ParsesBits, ReadsBits};
         /// The result of parsing: the nearest value of the type with width w and f fraction bits; `Syntax` if the text is not a
         /// decimal; `OutOfRange` if its nearest value does not fit in the width. The printed text of a value parses as that
         /// value.
@@ -569,8 +544,8 @@ pub mod font_tags {
     /// Four-byte tags (OpenType, data types: Tag, "Array of four uint8s (length = 32 bits) used to identify a table,
     /// design-variation axis, script, language system, feature, or baseline").
     ///
-    /// In the order of `crates/font_tags/specs/Tag.antt`: [`tag_bytes`](mod@Tag::tag_bytes), [`IsVisible`](mod@Tag::IsVisible), [`IsGood`](mod@Tag::IsGood), [`IsFault`](mod@Tag::IsFault), [`IsTagLength`](mod@Tag::IsTagLength), [`IsAcceptable`](mod@Tag::IsAcceptable), [`filled`](mod@Tag::filled), [`IsChecked`](mod@Tag::IsChecked).
-    pub mod Tag {
+    /// In the order of `crates/font_tags/specs/Tag.antt`: [`tag_bytes`](mod@Tag_antt::tag_bytes), [`IsVisible`](mod@Tag_antt::IsVisible), [`IsGood`](mod@Tag_antt::IsGood), [`IsFault`](mod@Tag_antt::IsFault), [`IsTagLength`](mod@Tag_antt::IsTagLength), [`IsAcceptable`](mod@Tag_antt::IsAcceptable), [`filled`](mod@Tag_antt::filled), [`IsChecked`](mod@Tag_antt::IsChecked).
+    pub mod Tag_antt {
         /// the four bytes of a tag
         ///
         /// ```text
@@ -658,9 +633,9 @@ pub mod font_tags {
 pub mod font_ids {
     /// Quantities in font design units.
     ///
-    /// In the order of `crates/font_ids/specs/FWord.antt`: [`ufword_number`](mod@FWord::ufword_number), [`nearest_unit`](mod@FWord::nearest_unit).
-    pub mod FWord {
-        use crate::definitions::font_decimal::Near::Up as up;
+    /// In the order of `crates/font_ids/specs/FWord.antt`: [`ufword_number`](mod@FWord_antt::ufword_number), [`nearest_unit`](mod@FWord_antt::nearest_unit).
+    pub mod FWord_antt {
+        use crate::definitions::font_decimal::Near_antt::Up as up;
         /// the same for `UfWord` (OpenType, data types: UFWORD, "uint16 that describes a quantity in font design units")
         ///
         /// ```text
@@ -681,8 +656,8 @@ pub mod font_ids {
 
     /// Glyph ids (OpenType: the glyphs of a font are numbered from 0; ids are stored as uint16 or uint24).
     ///
-    /// In the order of `crates/font_ids/specs/GlyphId.antt`: [`glyph16_number`](mod@GlyphId::glyph16_number).
-    pub mod GlyphId {
+    /// In the order of `crates/font_ids/specs/GlyphId.antt`: [`glyph16_number`](mod@GlyphId_antt::glyph16_number).
+    pub mod GlyphId_antt {
         /// the number of a 16-bit glyph id, and the glyph id with this number
         ///
         /// ```text
@@ -695,8 +670,8 @@ pub mod font_ids {
     /// Name ids (OpenType, name IDs: 0 to 25 except 15 are predefined, those up to 255 are reserved, and 256 to 32767 are
     /// font-specific).
     ///
-    /// In the order of `crates/font_ids/specs/NameId.antt`: [`name_number`](mod@NameId::name_number).
-    pub mod NameId {
+    /// In the order of `crates/font_ids/specs/NameId.antt`: [`name_number`](mod@NameId_antt::name_number).
+    pub mod NameId_antt {
         /// the number of a name id, and the name id with this number
         ///
         /// ```text
@@ -711,10 +686,10 @@ pub mod font_ids {
 pub mod variations {
     /// Tables HVAR and item variation stores, from offset to offset.
     ///
-    /// In the order of `crates/variations/specs/Advances.antt`: [`offset_at`](mod@Advances::offset_at), [`HasTarget`](mod@Advances::HasTarget), [`target_of`](mod@Advances::target_of), [`HasGlyphSet`](mod@Advances::HasGlyphSet), [`outer_index`](mod@Advances::outer_index), [`inner_index`](mod@Advances::inner_index), [`data_count`](mod@Advances::data_count), [`data_place`](mod@Advances::data_place), [`HasRegionList`](mod@Advances::HasRegionList), [`HasData`](mod@Advances::HasData), [`regions_of`](mod@Advances::regions_of), [`subtable_of`](mod@Advances::subtable_of).
-    pub mod Advances {
-        use crate::definitions::font_base::Bytes::numeral;
-        use crate::definitions::variations::Variations::{HasEntry, entry_of, inner_bits};
+    /// In the order of `crates/variations/specs/Advances.antt`: [`offset_at`](mod@Advances_antt::offset_at), [`HasTarget`](mod@Advances_antt::HasTarget), [`target_of`](mod@Advances_antt::target_of), [`HasGlyphSet`](mod@Advances_antt::HasGlyphSet), [`outer_index`](mod@Advances_antt::outer_index), [`inner_index`](mod@Advances_antt::inner_index), [`data_count`](mod@Advances_antt::data_count), [`data_place`](mod@Advances_antt::data_place), [`HasRegionList`](mod@Advances_antt::HasRegionList), [`HasData`](mod@Advances_antt::HasData), [`regions_of`](mod@Advances_antt::regions_of), [`subtable_of`](mod@Advances_antt::subtable_of).
+    pub mod Advances_antt {
+        use crate::definitions::font_base::Bytes_antt::numeral;
+        use crate::definitions::variations::Variations_antt::{HasEntry, entry_of, inner_bits};
         /// the offset of four bytes at a place (OpenType, Data Types: Offset32, zero for null)
         ///
         /// ```text
@@ -843,20 +818,20 @@ pub mod variations {
 
     /// Values of an evaluator of variations.
     ///
-    /// In the order of `crates/variations/specs/Evaluator.antt`: [`value_start`](mod@Evaluator::value_start), [`axis_part`](mod@Evaluator::axis_part), [`value_part`](mod@Evaluator::value_part), [`IsSetting`](mod@Evaluator::IsSetting), [`ParsesSetting`](mod@Evaluator::ParsesSetting), [`HasRange`](mod@Evaluator::HasRange), [`lerp_part`](mod@Evaluator::lerp_part), [`lerp_whole`](mod@Evaluator::lerp_whole), [`lerp_rise`](mod@Evaluator::lerp_rise), [`on_line`](mod@Evaluator::on_line), [`FitsLerp`](mod@Evaluator::FitsLerp), [`IsLerp`](mod@Evaluator::IsLerp), [`mapping_count`](mod@Evaluator::mapping_count), [`mapping_at`](mod@Evaluator::mapping_at), [`AreBelow`](mod@Evaluator::AreBelow), [`IsSegmentEnd`](mod@Evaluator::IsSegmentEnd), [`IsMappedIn`](mod@Evaluator::IsMappedIn), [`IsMapped`](mod@Evaluator::IsMapped), [`avar_axis_count`](mod@Evaluator::avar_axis_count), [`position_map_count`](mod@Evaluator::position_map_count), [`map_offset`](mod@Evaluator::map_offset), [`map_length`](mod@Evaluator::map_length), [`HasSegmentMap`](mod@Evaluator::HasSegmentMap), [`segment_map_bytes`](mod@Evaluator::segment_map_bytes), [`IsStoredCoordinate`](mod@Evaluator::IsStoredCoordinate), [`IsFinal`](mod@Evaluator::IsFinal).
-    pub mod Evaluator {
+    /// In the order of `crates/variations/specs/Evaluator.antt`: [`value_start`](mod@Evaluator_antt::value_start), [`axis_part`](mod@Evaluator_antt::axis_part), [`value_part`](mod@Evaluator_antt::value_part), [`IsSetting`](mod@Evaluator_antt::IsSetting), [`ParsesSetting`](mod@Evaluator_antt::ParsesSetting), [`HasRange`](mod@Evaluator_antt::HasRange), [`lerp_part`](mod@Evaluator_antt::lerp_part), [`lerp_whole`](mod@Evaluator_antt::lerp_whole), [`lerp_rise`](mod@Evaluator_antt::lerp_rise), [`on_line`](mod@Evaluator_antt::on_line), [`FitsLerp`](mod@Evaluator_antt::FitsLerp), [`IsLerp`](mod@Evaluator_antt::IsLerp), [`mapping_count`](mod@Evaluator_antt::mapping_count), [`mapping_at`](mod@Evaluator_antt::mapping_at), [`AreBelow`](mod@Evaluator_antt::AreBelow), [`IsSegmentEnd`](mod@Evaluator_antt::IsSegmentEnd), [`IsMappedIn`](mod@Evaluator_antt::IsMappedIn), [`IsMapped`](mod@Evaluator_antt::IsMapped), [`avar_axis_count`](mod@Evaluator_antt::avar_axis_count), [`position_map_count`](mod@Evaluator_antt::position_map_count), [`map_offset`](mod@Evaluator_antt::map_offset), [`map_length`](mod@Evaluator_antt::map_length), [`HasSegmentMap`](mod@Evaluator_antt::HasSegmentMap), [`segment_map_bytes`](mod@Evaluator_antt::segment_map_bytes), [`IsStoredCoordinate`](mod@Evaluator_antt::IsStoredCoordinate), [`IsFinal`](mod@Evaluator_antt::IsFinal).
+    pub mod Evaluator_antt {
         use crate::definitions::font_base::{
-            Bytes::numeral,
-            Wrap::{FitsBits, wrap},
+            Bytes_antt::numeral,
+            Wrap_antt::{FitsBits, wrap},
         };
         use crate::definitions::font_fixed::{
-            F2Dot14::{F2Dot14, f2dot14_bits},
-            Fixed::{Fixed, NEG_ONE, ONE, fixed_bits, fixed_of},
-            Operations::{IsMulDiv, IsNarrowed, rounded_mul_div},
-            Reading::ParsesFixedPoint,
+            F2Dot14_antt::f2dot14_bits,
+            Fixed_antt::{NEG_ONE, ONE, fixed_bits, fixed_of},
+            Operations_antt::{IsMulDiv, IsNarrowed, rounded_mul_div},
+            Reading_antt::ParsesFixedPoint,
         };
-        use crate::definitions::font_tags::Tag::{IsAcceptable, IsChecked};
-        use crate::definitions::variations::Variations::stored_bits;
+        use crate::definitions::font_tags::Tag_antt::{IsAcceptable, IsChecked};
+        use crate::definitions::variations::Variations_antt::stored_bits;
         /// where the first `=` is, or the length of a text without one
         ///
         /// ```text
@@ -922,7 +897,7 @@ pub mod variations {
         /// abbrev lerp_part : Fixed → AxisValueMap → ℤ
         /// lerp_part coordinate start = fixed_bits coordinate -ℤ fixed_bits start.from_coordinate
         /// ```
-        /// [`Fixed`], [`fixed_bits`]
+        /// [`fixed_bits`]
         pub mod lerp_part {}
 
         /// the distance of the coordinate from the start, that of the end, and the rise between their coordinates
@@ -951,7 +926,7 @@ pub mod variations {
         /// on_line coordinate start end = fixed_bits start.to_coordinate
         ///     +ℤ rounded_mul_div (lerp_rise start end) (lerp_part coordinate start) (lerp_whole start end)
         /// ```
-        /// [`Fixed`], [`fixed_bits`], [`rounded_mul_div`], [`lerp_rise`], [`lerp_part`], [`lerp_whole`]
+        /// [`fixed_bits`], [`rounded_mul_div`], [`lerp_rise`], [`lerp_part`], [`lerp_whole`]
         pub mod on_line {}
 
         /// nothing overflows: the differences fit in 32 bits, and so does the value
@@ -963,7 +938,7 @@ pub mod variations {
         ///   rise : FitsBits 32 (lerp_rise start end)
         ///   value : FitsBits 32 (on_line coordinate start end)
         /// ```
-        /// [`Fixed`], [`FitsBits`], [`lerp_part`], [`lerp_whole`], [`lerp_rise`], [`on_line`]
+        /// [`FitsBits`], [`lerp_part`], [`lerp_whole`], [`lerp_rise`], [`on_line`]
         pub mod FitsLerp {}
 
         /// the value on the line, if nothing overflows; else each difference, the share and the sum wrap to 32 bits
@@ -976,7 +951,7 @@ pub mod variations {
         ///       (wrap 32 (lerp_whole start end)) share
         ///   is_sum : fixed_bits result ≡ wrap 32 (fixed_bits start.to_coordinate +ℤ share)
         /// ```
-        /// [`Fixed`], [`FitsLerp`], [`fixed_bits`], [`on_line`], [`IsMulDiv`], [`wrap`], [`lerp_rise`], [`lerp_part`], [`lerp_whole`]
+        /// [`FitsLerp`], [`fixed_bits`], [`on_line`], [`IsMulDiv`], [`wrap`], [`lerp_rise`], [`lerp_part`], [`lerp_whole`]
         pub mod IsLerp {}
 
         /// how many mappings there are: of four bytes each
@@ -1029,7 +1004,7 @@ pub mod variations {
         ///       → IsLerp coordinate (mapping_at map (end - 1)) (mapping_at map end) result
         ///   outside : coordinate ≢ (mapping_at map end).from_coordinate → end ≡ 0 → result ≡ coordinate
         /// ```
-        /// [`Fixed`], [`mapping_at`], [`IsLerp`]
+        /// [`mapping_at`], [`IsLerp`]
         pub mod IsMappedIn {}
 
         /// the coordinate by the segment that it is in, or itself above all mappings, as of an empty map
@@ -1040,7 +1015,7 @@ pub mod variations {
         ///     (AreBelow map (mapping_count map) (fixed_bits coordinate) × (result ≡ coordinate))
         ///     ⊎ ((end : ℕ) × IsSegmentEnd (fixed_bits coordinate) map end × IsMappedIn coordinate map end result)
         /// ```
-        /// [`Fixed`], [`AreBelow`], [`mapping_count`], [`fixed_bits`], [`IsSegmentEnd`], [`IsMappedIn`]
+        /// [`AreBelow`], [`mapping_count`], [`fixed_bits`], [`IsSegmentEnd`], [`IsMappedIn`]
         pub mod IsMapped {}
 
         /// where the segment map of an axis is (OpenType, avar: axisCount at 6, and from 8 on for each axis
@@ -1109,7 +1084,7 @@ pub mod variations {
         ///   below : fixed_bits coordinate ≤ℤ fixed_bits NEG_ONE → f2dot14_bits stored ≡ neg_ℤ (pos 16384)
         ///   above : fixed_bits ONE ≤ℤ fixed_bits coordinate → f2dot14_bits stored ≡ pos 16384
         /// ```
-        /// [`Fixed`], [`F2Dot14`], [`fixed_bits`], [`NEG_ONE`], [`ONE`], [`IsNarrowed`], [`f2dot14_bits`]
+        /// [`fixed_bits`], [`NEG_ONE`], [`ONE`], [`IsNarrowed`], [`f2dot14_bits`]
         pub mod IsStoredCoordinate {}
 
         /// the coordinate mapped, and only then rounded
@@ -1118,24 +1093,24 @@ pub mod variations {
         /// abbrev IsFinal : Fixed → List ℕ → F2Dot14 → Type 0
         /// IsFinal coordinate map stored = (mapped : Fixed) × IsMapped coordinate map mapped × IsStoredCoordinate mapped stored
         /// ```
-        /// [`Fixed`], [`F2Dot14`], [`IsMapped`], [`IsStoredCoordinate`]
+        /// [`IsMapped`], [`IsStoredCoordinate`]
         pub mod IsFinal {}
     }
 
     /// Item variation stores (OpenType, font variations common table formats: "Item Variation Store").
     ///
-    /// In the order of `crates/variations/specs/Variations.antt`: [`IsIgnored`](mod@Variations::IsIgnored), [`IsOffRegion`](mod@Variations::IsOffRegion), [`IsScalarAfter`](mod@Variations::IsScalarAfter), [`IsAxisScalar`](mod@Variations::IsAxisScalar), [`axis_count`](mod@Variations::axis_count), [`region_count`](mod@Variations::region_count), [`region_offset`](mod@Variations::region_offset), [`HasRegion`](mod@Variations::HasRegion), [`region_bytes`](mod@Variations::region_bytes), [`stored_bits`](mod@Variations::stored_bits), [`coordinate_bits`](mod@Variations::coordinate_bits), [`IsScalarAfterAxis`](mod@Variations::IsScalarAfterAxis), [`IsScalarOf`](mod@Variations::IsScalarOf), [`IsRegionScalar`](mod@Variations::IsRegionScalar), [`is_ignored_axis`](mod@Variations::is_ignored_axis), [`share`](mod@Variations::share), [`scalar_after`](mod@Variations::scalar_after), [`scalar_of`](mod@Variations::scalar_of), [`region_scalar`](mod@Variations::region_scalar), [`AreScalars`](mod@Variations::AreScalars), [`Fraction`](mod@Variations::Fraction), [`whole`](mod@Variations::whole), [`part_of`](mod@Variations::part_of), [`times`](mod@Variations::times), [`plus`](mod@Variations::plus), [`IsOffBy`](mod@Variations::IsOffBy), [`exact_axis_scalar`](mod@Variations::exact_axis_scalar), [`exact_scalar`](mod@Variations::exact_scalar), [`IsNearScalar`](mod@Variations::IsNearScalar), [`exact_region_scalar`](mod@Variations::exact_region_scalar), [`IsNearRegionScalar`](mod@Variations::IsNearRegionScalar), [`item_count`](mod@Variations::item_count), [`word_delta_count`](mod@Variations::word_delta_count), [`region_index_count`](mod@Variations::region_index_count), [`region_index`](mod@Variations::region_index), [`narrow_width`](mod@Variations::narrow_width), [`delta_width`](mod@Variations::delta_width), [`delta_place`](mod@Variations::delta_place), [`column_width`](mod@Variations::column_width), [`delta_offset`](mod@Variations::delta_offset), [`HasDelta`](mod@Variations::HasDelta), [`delta_of`](mod@Variations::delta_of), [`HasTerm`](mod@Variations::HasTerm), [`IsTerm`](mod@Variations::IsTerm), [`IsTermProduct`](mod@Variations::IsTermProduct), [`IsSumThrough`](mod@Variations::IsSumThrough), [`IsSetSum`](mod@Variations::IsSetSum), [`exact_delta`](mod@Variations::exact_delta), [`sum_of_magnitudes`](mod@Variations::sum_of_magnitudes), [`sum_halves`](mod@Variations::sum_halves), [`IsNearSetSum`](mod@Variations::IsNearSetSum), [`exact_advance`](mod@Variations::exact_advance), [`IsNearAdvance`](mod@Variations::IsNearAdvance), [`HasSet`](mod@Variations::HasSet), [`moved`](mod@Variations::moved), [`IsAdvance`](mod@Variations::IsAdvance), [`IsVaried`](mod@Variations::IsVaried), [`HasNoVaried`](mod@Variations::HasNoVaried), [`map_format`](mod@Variations::map_format), [`entry_format`](mod@Variations::entry_format), [`map_count`](mod@Variations::map_count), [`map_start`](mod@Variations::map_start), [`entry_width`](mod@Variations::entry_width), [`inner_bits`](mod@Variations::inner_bits), [`entry_offset`](mod@Variations::entry_offset), [`HasEntry`](mod@Variations::HasEntry), [`entry_of`](mod@Variations::entry_of), [`IsNoVariation`](mod@Variations::IsNoVariation).
-    pub mod Variations {
+    /// In the order of `crates/variations/specs/Variations.antt`: [`IsIgnored`](mod@Variations_antt::IsIgnored), [`IsOffRegion`](mod@Variations_antt::IsOffRegion), [`IsScalarAfter`](mod@Variations_antt::IsScalarAfter), [`IsAxisScalar`](mod@Variations_antt::IsAxisScalar), [`axis_count`](mod@Variations_antt::axis_count), [`region_count`](mod@Variations_antt::region_count), [`region_offset`](mod@Variations_antt::region_offset), [`HasRegion`](mod@Variations_antt::HasRegion), [`region_bytes`](mod@Variations_antt::region_bytes), [`stored_bits`](mod@Variations_antt::stored_bits), [`coordinate_bits`](mod@Variations_antt::coordinate_bits), [`IsScalarAfterAxis`](mod@Variations_antt::IsScalarAfterAxis), [`IsScalarOf`](mod@Variations_antt::IsScalarOf), [`IsRegionScalar`](mod@Variations_antt::IsRegionScalar), [`is_ignored_axis`](mod@Variations_antt::is_ignored_axis), [`share`](mod@Variations_antt::share), [`scalar_after`](mod@Variations_antt::scalar_after), [`scalar_of`](mod@Variations_antt::scalar_of), [`region_scalar`](mod@Variations_antt::region_scalar), [`AreScalars`](mod@Variations_antt::AreScalars), [`Fraction`](mod@Variations_antt::Fraction), [`whole`](mod@Variations_antt::whole), [`part_of`](mod@Variations_antt::part_of), [`times`](mod@Variations_antt::times), [`plus`](mod@Variations_antt::plus), [`IsOffBy`](mod@Variations_antt::IsOffBy), [`exact_axis_scalar`](mod@Variations_antt::exact_axis_scalar), [`exact_scalar`](mod@Variations_antt::exact_scalar), [`IsNearScalar`](mod@Variations_antt::IsNearScalar), [`exact_region_scalar`](mod@Variations_antt::exact_region_scalar), [`IsNearRegionScalar`](mod@Variations_antt::IsNearRegionScalar), [`item_count`](mod@Variations_antt::item_count), [`word_delta_count`](mod@Variations_antt::word_delta_count), [`region_index_count`](mod@Variations_antt::region_index_count), [`region_index`](mod@Variations_antt::region_index), [`narrow_width`](mod@Variations_antt::narrow_width), [`delta_width`](mod@Variations_antt::delta_width), [`delta_place`](mod@Variations_antt::delta_place), [`column_width`](mod@Variations_antt::column_width), [`delta_offset`](mod@Variations_antt::delta_offset), [`HasDelta`](mod@Variations_antt::HasDelta), [`delta_of`](mod@Variations_antt::delta_of), [`HasTerm`](mod@Variations_antt::HasTerm), [`IsTerm`](mod@Variations_antt::IsTerm), [`IsTermProduct`](mod@Variations_antt::IsTermProduct), [`IsSumThrough`](mod@Variations_antt::IsSumThrough), [`IsSetSum`](mod@Variations_antt::IsSetSum), [`exact_delta`](mod@Variations_antt::exact_delta), [`sum_of_magnitudes`](mod@Variations_antt::sum_of_magnitudes), [`sum_halves`](mod@Variations_antt::sum_halves), [`IsNearSetSum`](mod@Variations_antt::IsNearSetSum), [`exact_advance`](mod@Variations_antt::exact_advance), [`IsNearAdvance`](mod@Variations_antt::IsNearAdvance), [`HasSet`](mod@Variations_antt::HasSet), [`moved`](mod@Variations_antt::moved), [`IsAdvance`](mod@Variations_antt::IsAdvance), [`IsVaried`](mod@Variations_antt::IsVaried), [`HasNoVaried`](mod@Variations_antt::HasNoVaried), [`map_format`](mod@Variations_antt::map_format), [`entry_format`](mod@Variations_antt::entry_format), [`map_count`](mod@Variations_antt::map_count), [`map_start`](mod@Variations_antt::map_start), [`entry_width`](mod@Variations_antt::entry_width), [`inner_bits`](mod@Variations_antt::inner_bits), [`entry_offset`](mod@Variations_antt::entry_offset), [`HasEntry`](mod@Variations_antt::HasEntry), [`entry_of`](mod@Variations_antt::entry_of), [`IsNoVariation`](mod@Variations_antt::IsNoVariation).
+    pub mod Variations_antt {
         use crate::definitions::font_base::{
-            Bytes::{numeral, signed_numeral},
-            Wrap::wrap,
+            Bytes_antt::{numeral, signed_numeral},
+            Wrap_antt::wrap,
         };
         use crate::definitions::font_fixed::{
-            F2Dot14::{F2Dot14, f2dot14_bits, f2dot14_of},
-            Fixed::{Fixed, fixed_bits},
-            Operations::{IsMulDiv, rounded_mul_div},
+            F2Dot14_antt::{f2dot14_bits, f2dot14_of},
+            Fixed_antt::fixed_bits,
+            Operations_antt::{IsMulDiv, rounded_mul_div},
         };
-        use crate::definitions::font_ids::FWord::nearest_unit;
+        use crate::definitions::font_ids::FWord_antt::nearest_unit;
         /// the axis is ignored: start, peak and end are out of order, or on both sides of zero, or the peak is zero
         ///
         /// ```text
@@ -1243,7 +1218,7 @@ pub mod variations {
         /// abbrev coordinate_bits : List F2Dot14 → ℕ → ℤ
         /// coordinate_bits coordinates axis = f2dot14_bits (slice_index_or coordinates axis (f2dot14_of (pos 0)))
         /// ```
-        /// [`F2Dot14`], [`f2dot14_bits`], [`f2dot14_of`]
+        /// [`f2dot14_bits`], [`f2dot14_of`]
         pub mod coordinate_bits {}
 
         /// the scalar of a region after an axis
@@ -1254,7 +1229,7 @@ pub mod variations {
         ///     (stored_bits region (6 * axis + 2)) (stored_bits region (6 * axis + 4)) (coordinate_bits coordinates axis)
         ///     before scalar
         /// ```
-        /// [`F2Dot14`], [`IsScalarAfter`], [`stored_bits`], [`coordinate_bits`]
+        /// [`IsScalarAfter`], [`stored_bits`], [`coordinate_bits`]
         pub mod IsScalarAfterAxis {}
 
         /// the product of the scalars along the first n axes, rounded once for each axis, in their order
@@ -1265,7 +1240,7 @@ pub mod variations {
         /// IsScalarOf region coordinates (suc n) scalar = (before : ℤ) × IsScalarOf region coordinates n before
         ///     × IsScalarAfterAxis region coordinates n before scalar
         /// ```
-        /// [`F2Dot14`], [`IsScalarAfterAxis`]
+        /// [`IsScalarAfterAxis`]
         pub mod IsScalarOf {}
 
         /// the product of the scalars along all axes
@@ -1275,7 +1250,7 @@ pub mod variations {
         /// IsRegionScalar regions region coordinates scalar =
         ///     IsScalarOf (region_bytes regions region) coordinates (axis_count regions) scalar
         /// ```
-        /// [`F2Dot14`], [`IsScalarOf`], [`region_bytes`], [`axis_count`]
+        /// [`IsScalarOf`], [`region_bytes`], [`axis_count`]
         pub mod IsRegionScalar {}
 
         /// whether the axis is ignored, as `IsIgnored` has it
@@ -1317,7 +1292,7 @@ pub mod variations {
         /// scalar_of region coordinates (suc n) = scalar_after (stored_bits region (6 * n)) (stored_bits region (6 * n + 2))
         ///     (stored_bits region (6 * n + 4)) (coordinate_bits coordinates n) (scalar_of region coordinates n)
         /// ```
-        /// [`F2Dot14`], [`scalar_after`], [`stored_bits`], [`coordinate_bits`]
+        /// [`scalar_after`], [`stored_bits`], [`coordinate_bits`]
         pub mod scalar_of {}
 
         /// the scalar of a region of a list
@@ -1327,7 +1302,7 @@ pub mod variations {
         /// region_scalar regions region coordinates =
         ///     scalar_of (region_bytes regions region) coordinates (axis_count regions)
         /// ```
-        /// [`F2Dot14`], [`scalar_of`], [`region_bytes`], [`axis_count`]
+        /// [`scalar_of`], [`region_bytes`], [`axis_count`]
         pub mod region_scalar {}
 
         /// the scalars of all regions of a list, in order
@@ -1342,7 +1317,7 @@ pub mod variations {
         ///   high : (region : ℕ) (d : Fixed) → region < length scalars
         ///       → fixed_bits (slice_index_or scalars region d) ≤ℤ pos 65536
         /// ```
-        /// [`F2Dot14`], [`Fixed`], [`fixed_bits`], [`region_scalar`], [`HasRegion`]
+        /// [`fixed_bits`], [`region_scalar`], [`HasRegion`]
         pub mod AreScalars {}
 
         /// exact values: what the same algorithm gives in fractions, with no rounding
@@ -1428,7 +1403,7 @@ pub mod variations {
         ///     (exact_axis_scalar (stored_bits region (6 * n)) (stored_bits region (6 * n + 2)) (stored_bits region (6 * n + 4))
         ///     (coordinate_bits coordinates n))
         /// ```
-        /// [`F2Dot14`], [`Fraction`], [`whole`], [`times`], [`exact_axis_scalar`], [`stored_bits`], [`coordinate_bits`]
+        /// [`Fraction`], [`whole`], [`times`], [`exact_axis_scalar`], [`stored_bits`], [`coordinate_bits`]
         pub mod exact_scalar {}
 
         /// a scalar of n axes differs from their exact product by at most half a unit for each axis
@@ -1437,7 +1412,7 @@ pub mod variations {
         /// abbrev IsNearScalar : List ℕ → List F2Dot14 → ℕ → ℤ → Type 0
         /// IsNearScalar region coordinates n scalar = IsOffBy n scalar (exact_scalar region coordinates n)
         /// ```
-        /// [`F2Dot14`], [`IsOffBy`], [`exact_scalar`]
+        /// [`IsOffBy`], [`exact_scalar`]
         pub mod IsNearScalar {}
 
         /// the scalar of a region of a list
@@ -1447,7 +1422,7 @@ pub mod variations {
         /// exact_region_scalar regions region coordinates =
         ///     exact_scalar (region_bytes regions region) coordinates (axis_count regions)
         /// ```
-        /// [`F2Dot14`], [`Fraction`], [`exact_scalar`], [`region_bytes`], [`axis_count`]
+        /// [`Fraction`], [`exact_scalar`], [`region_bytes`], [`axis_count`]
         pub mod exact_region_scalar {}
 
         /// the scalar of a region of a list
@@ -1457,7 +1432,7 @@ pub mod variations {
         /// IsNearRegionScalar regions region coordinates scalar =
         ///     IsNearScalar (region_bytes regions region) coordinates (axis_count regions) scalar
         /// ```
-        /// [`F2Dot14`], [`IsNearScalar`], [`region_bytes`], [`axis_count`]
+        /// [`IsNearScalar`], [`region_bytes`], [`axis_count`]
         pub mod IsNearRegionScalar {}
 
         /// delta sets ("Item Variation Data": itemCount, wordDeltaCount, regionIndexCount, regionIndexes, and deltaSets)
@@ -1582,7 +1557,7 @@ pub mod variations {
         ///   scalar : IsRegionScalar regions (region_index subtable column) coordinates (fixed_bits term.0)
         ///   delta : term.1 ≡ delta_of subtable set column
         /// ```
-        /// [`F2Dot14`], [`Fixed`], [`IsRegionScalar`], [`region_index`], [`fixed_bits`], [`delta_of`]
+        /// [`IsRegionScalar`], [`region_index`], [`fixed_bits`], [`delta_of`]
         pub mod IsTerm {}
 
         /// the exact product of both
@@ -1594,7 +1569,7 @@ pub mod variations {
         ///   is_term : IsTerm regions subtable coordinates set column term
         ///   value : product ≡ (fixed_bits term.0 *ℤ term.1)
         /// ```
-        /// [`F2Dot14`], [`Fixed`], [`IsTerm`], [`fixed_bits`]
+        /// [`IsTerm`], [`fixed_bits`]
         pub mod IsTermProduct {}
 
         /// the exact sum of the products of the first n columns
@@ -1606,7 +1581,7 @@ pub mod variations {
         ///     × IsSumThrough regions subtable coordinates set n before × IsTermProduct regions subtable coordinates set n product
         ///     × (sum ≡ (before +ℤ product))
         /// ```
-        /// [`F2Dot14`], [`IsTermProduct`]
+        /// [`IsTermProduct`]
         pub mod IsSumThrough {}
 
         /// the exact sum of all columns
@@ -1616,7 +1591,7 @@ pub mod variations {
         /// IsSetSum regions subtable coordinates set sum =
         ///     IsSumThrough regions subtable coordinates set (region_index_count subtable) sum
         /// ```
-        /// [`F2Dot14`], [`IsSumThrough`], [`region_index_count`]
+        /// [`IsSumThrough`], [`region_index_count`]
         pub mod IsSetSum {}
 
         /// the sum of the first n deltas, each times the exact scalar of its region
@@ -1627,7 +1602,7 @@ pub mod variations {
         /// exact_delta regions subtable coordinates set (suc n) = plus (exact_delta regions subtable coordinates set n)
         ///     (times (exact_region_scalar regions (region_index subtable n) coordinates) (whole (delta_of subtable set n)))
         /// ```
-        /// [`F2Dot14`], [`Fraction`], [`whole`], [`plus`], [`times`], [`exact_region_scalar`], [`region_index`], [`delta_of`]
+        /// [`Fraction`], [`whole`], [`plus`], [`times`], [`exact_region_scalar`], [`region_index`], [`delta_of`]
         pub mod exact_delta {}
 
         /// the sum of the magnitudes of the first n deltas
@@ -1657,7 +1632,7 @@ pub mod variations {
         ///     IsOffBy (sum_halves regions subtable set (region_index_count subtable)) sum
         ///     (exact_delta regions subtable coordinates set (region_index_count subtable))
         /// ```
-        /// [`F2Dot14`], [`IsOffBy`], [`sum_halves`], [`region_index_count`], [`exact_delta`]
+        /// [`IsOffBy`], [`sum_halves`], [`region_index_count`], [`exact_delta`]
         pub mod IsNearSetSum {}
 
         /// an advance plus the exact delta of a set
@@ -1667,7 +1642,7 @@ pub mod variations {
         /// exact_advance regions subtable coordinates set advance =
         ///     plus (whole (pos advance)) (exact_delta regions subtable coordinates set (region_index_count subtable))
         /// ```
-        /// [`F2Dot14`], [`Fraction`], [`plus`], [`whole`], [`exact_delta`], [`region_index_count`]
+        /// [`Fraction`], [`plus`], [`whole`], [`exact_delta`], [`region_index_count`]
         pub mod exact_advance {}
 
         /// a varied advance differs from the exact one by at most half a font unit and the bound of the set's sum:
@@ -1679,7 +1654,7 @@ pub mod variations {
         ///     IsOffBy (65536 + sum_halves regions subtable set (region_index_count subtable)) (varied *ℤ pos 65536)
         ///     (exact_advance regions subtable coordinates set advance)
         /// ```
-        /// [`F2Dot14`], [`IsOffBy`], [`sum_halves`], [`region_index_count`], [`exact_advance`]
+        /// [`IsOffBy`], [`sum_halves`], [`region_index_count`], [`exact_advance`]
         pub mod IsNearAdvance {}
 
         /// the set is in the subtable, and so is each of its columns, with a region
@@ -1717,7 +1692,7 @@ pub mod variations {
         /// IsVaried regions subtable coordinates set advance varied =
         ///     (sum : ℤ) × IsSetSum regions subtable coordinates set sum × (varied ≡ moved advance sum)
         /// ```
-        /// [`F2Dot14`], [`IsSetSum`], [`moved`]
+        /// [`IsSetSum`], [`moved`]
         pub mod IsVaried {}
 
         /// the subtable does not have the set, or the advance that it moves is out of range
@@ -1727,7 +1702,7 @@ pub mod variations {
         /// HasNoVaried regions subtable coordinates set advance = (¬ HasSet regions subtable set)
         ///     ⊎ ((varied : ℤ) × IsVaried regions subtable coordinates set advance varied × (¬ IsAdvance varied))
         /// ```
-        /// [`F2Dot14`], [`HasSet`], [`IsVaried`], [`IsAdvance`]
+        /// [`HasSet`], [`IsVaried`], [`IsAdvance`]
         pub mod HasNoVaried {}
 
         /// maps ("DeltaSetIndexMap": format, entryFormat, mapCount of two bytes in format 0 and four in format 1, mapData)

@@ -3,11 +3,11 @@
 //! Delta sets of item variation data: their deltas, their sums, and advances that they move.
 
 #[cfg(doc)]
-use crate::definitions::font_fixed::{F48Dot16::f48dot16_bits, Fixed::fixed_bits};
+use crate::definitions::font_fixed::{F48Dot16_antt::f48dot16_bits, Fixed_antt::fixed_bits};
 #[cfg(doc)]
-use crate::definitions::font_ids::FWord::ufword_number;
+use crate::definitions::font_ids::FWord_antt::ufword_number;
 #[cfg(doc)]
-use crate::definitions::variations::Variations::{
+use crate::definitions::variations::Variations_antt::{
     HasDelta, HasNoVaried, HasSet, HasTerm, IsNearAdvance, IsNearSetSum, IsSetSum, IsTerm,
     IsVaried, delta_of,
 };

@@ -3,17 +3,17 @@
 //! Coordinates of an instance: settings, `fvar` and `avar`.
 
 #[cfg(doc)]
-use crate::definitions::font_base::Bytes::{numeral, signed_numeral};
+use crate::definitions::font_base::Bytes_antt::{numeral, signed_numeral};
 #[cfg(doc)]
 use crate::definitions::font_fixed::{
-    F2Dot14::f2dot14_bits, Fixed::fixed_bits, Operations::IsQuotient,
+    F2Dot14_antt::f2dot14_bits, Fixed_antt::fixed_bits, Operations_antt::IsQuotient,
 };
 #[cfg(doc)]
-use crate::definitions::font_ids::NameId::name_number;
+use crate::definitions::font_ids::NameId_antt::name_number;
 #[cfg(doc)]
-use crate::definitions::font_tags::Tag::tag_bytes;
+use crate::definitions::font_tags::Tag_antt::tag_bytes;
 #[cfg(doc)]
-use crate::definitions::variations::Evaluator::{
+use crate::definitions::variations::Evaluator_antt::{
     HasRange, HasSegmentMap, IsFinal, IsMapped, IsStoredCoordinate, ParsesSetting, map_offset,
     segment_map_bytes,
 };

@@ -3,13 +3,13 @@
 //! Item variation stores at the coordinates of an instance.
 
 #[cfg(doc)]
-use crate::definitions::font_fixed::{F48Dot16::f48dot16_bits, Fixed::fixed_bits};
+use crate::definitions::font_fixed::{F48Dot16_antt::f48dot16_bits, Fixed_antt::fixed_bits};
 #[cfg(doc)]
-use crate::definitions::font_ids::FWord::ufword_number;
+use crate::definitions::font_ids::FWord_antt::ufword_number;
 #[cfg(doc)]
 use crate::definitions::variations::{
-    Advances::{HasData, HasRegionList, HasTarget, regions_of, subtable_of},
-    Variations::{
+    Advances_antt::{HasData, HasRegionList, HasTarget, regions_of, subtable_of},
+    Variations_antt::{
         AreScalars, HasNoVaried, HasRegion, HasSet, IsNearAdvance, IsNearSetSum, IsNoVariation,
         IsRegionScalar, IsSetSum, IsVaried, region_count,
     },

@@ -3,7 +3,9 @@
 //! Maps from indices to delta sets.
 
 #[cfg(doc)]
-use crate::definitions::variations::Variations::{HasEntry, IsNoVariation, entry_of, inner_bits};
+use crate::definitions::variations::Variations_antt::{
+    HasEntry, IsNoVariation, entry_of, inner_bits,
+};
 
 use font_types_proved::{Scalar, Uint24};
 

@@ -3,9 +3,9 @@
 //! Variation regions: the scalar of each axis, and of a region.
 
 #[cfg(doc)]
-use crate::definitions::font_fixed::{F2Dot14::f2dot14_bits, Fixed::fixed_bits};
+use crate::definitions::font_fixed::{F2Dot14_antt::f2dot14_bits, Fixed_antt::fixed_bits};
 #[cfg(doc)]
-use crate::definitions::variations::Variations::{
+use crate::definitions::variations::Variations_antt::{
     AreScalars, HasRegion, IsAxisScalar, IsIgnored, IsNearRegionScalar, IsRegionScalar,
 };
 

@@ -3,12 +3,12 @@
 //! 2.14 fixed-point numbers.
 
 #[cfg(doc)]
-use crate::definitions::font_base::Wrap::FitsBits;
+use crate::definitions::font_base::Wrap_antt::FitsBits;
 #[cfg(doc)]
-use crate::definitions::font_decimal::Near::Up as up;
+use crate::definitions::font_decimal::Near_antt::Up as up;
 #[cfg(doc)]
 use crate::definitions::font_fixed::{
-    F2Dot14::f2dot14_bits as bits_of, F48Dot16::f48dot16_bits, Fixed::fixed_bits,
+    F2Dot14_antt::f2dot14_bits as bits_of, F48Dot16_antt::f48dot16_bits, Fixed_antt::fixed_bits,
 };
 
 use super::FixedI16;

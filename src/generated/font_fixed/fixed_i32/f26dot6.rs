@@ -3,13 +3,13 @@
 //! 26.6 fixed-point numbers.
 
 #[cfg(doc)]
-use crate::definitions::font_base::Wrap::{FitsBits, wrap};
+use crate::definitions::font_base::Wrap_antt::{FitsBits, wrap};
 #[cfg(doc)]
-use crate::definitions::font_decimal::Near::{Near as near, Up as up};
+use crate::definitions::font_decimal::Near_antt::{Near as near, Up as up};
 #[cfg(doc)]
 use crate::definitions::font_fixed::{
-    F26Dot6::f26dot6_bits as bits_of,
-    Operations::{IsNarrowed, IsProduct, IsQuotient, rounded_mul_div},
+    F26Dot6_antt::f26dot6_bits as bits_of,
+    Operations_antt::{IsNarrowed, IsProduct, IsQuotient, rounded_mul_div},
 };
 
 use super::FixedI32;

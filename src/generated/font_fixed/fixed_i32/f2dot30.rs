@@ -4,17 +4,17 @@
 
 #[cfg(doc)]
 use crate::definitions::font_base::{
-    Bytes::{bytes_of, signed_numeral},
-    Wrap::{FitsBits, fits_bits, wrap},
+    Bytes_antt::{bytes_of, signed_numeral},
+    Wrap_antt::{FitsBits, fits_bits, wrap},
 };
 #[cfg(doc)]
-use crate::definitions::font_decimal::Near::Up as up;
+use crate::definitions::font_decimal::Near_antt::Up as up;
 #[cfg(doc)]
 use crate::definitions::font_fixed::{
-    F2Dot14::f2dot14_bits,
-    F2Dot30::{f2dot30_bits as bits_of, f2dot30_of as of_bits},
-    Fixed::fixed_bits,
-    Operations::IsNarrowed,
+    F2Dot14_antt::f2dot14_bits,
+    F2Dot30_antt::{f2dot30_bits as bits_of, f2dot30_of as of_bits},
+    Fixed_antt::fixed_bits,
+    Operations_antt::IsNarrowed,
 };
 
 use super::FixedI32;

@@ -4,18 +4,18 @@
 
 #[cfg(doc)]
 use crate::definitions::font_base::{
-    Bytes::{bytes_of, signed_numeral},
-    Wrap::{FitsBits, fits_bits, wrap},
+    Bytes_antt::{bytes_of, signed_numeral},
+    Wrap_antt::{FitsBits, fits_bits, wrap},
 };
 #[cfg(doc)]
-use crate::definitions::font_decimal::Near::{Near as near, Up as up};
+use crate::definitions::font_decimal::Near_antt::{Near as near, Up as up};
 #[cfg(doc)]
 use crate::definitions::font_fixed::{
-    F2Dot14::f2dot14_bits,
-    F26Dot6::f26dot6_bits,
-    F48Dot16::f48dot16_bits,
-    Fixed::{fixed_bits as bits_of, fixed_of as of_bits},
-    Operations::{IsMulDiv, IsNarrowed, IsProduct, IsQuotient, rounded_mul_div},
+    F2Dot14_antt::f2dot14_bits,
+    F26Dot6_antt::f26dot6_bits,
+    F48Dot16_antt::f48dot16_bits,
+    Fixed_antt::{fixed_bits as bits_of, fixed_of as of_bits},
+    Operations_antt::{IsMulDiv, IsNarrowed, IsProduct, IsQuotient, rounded_mul_div},
 };
 
 use super::FixedI32;

@@ -3,12 +3,12 @@
 //! 48.16 fixed-point numbers.
 
 #[cfg(doc)]
-use crate::definitions::font_base::Wrap::{FitsBits, wrap};
+use crate::definitions::font_base::Wrap_antt::{FitsBits, wrap};
 #[cfg(doc)]
-use crate::definitions::font_decimal::Near::Up as up;
+use crate::definitions::font_decimal::Near_antt::Up as up;
 #[cfg(doc)]
 use crate::definitions::font_fixed::{
-    F48Dot16::f48dot16_bits as bits_of, Fixed::fixed_bits, Operations::IsNarrowed,
+    F48Dot16_antt::f48dot16_bits as bits_of, Fixed_antt::fixed_bits, Operations_antt::IsNarrowed,
 };
 
 use super::FixedI64;

@@ -4,8 +4,8 @@
 
 #[cfg(doc)]
 use crate::definitions::font_fixed::{
-    F26Dot6::f26dot6_bits,
-    NumberLaws::{OnThree, ProductLaws, QuotientLaws},
+    F26Dot6_antt::f26dot6_bits,
+    NumberLaws_antt::{OnThree, ProductLaws, QuotientLaws},
 };
 
 use crate::font_fixed::F26Dot6;

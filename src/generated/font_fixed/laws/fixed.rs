@@ -3,15 +3,15 @@
 //! Laws of [`Fixed`], as contracts of functions.
 
 #[cfg(doc)]
-use crate::definitions::font_base::Wrap::{FitsBits, wrap};
+use crate::definitions::font_base::Wrap_antt::{FitsBits, wrap};
 #[cfg(doc)]
-use crate::definitions::font_decimal::Near::Up as up;
+use crate::definitions::font_decimal::Near_antt::Up as up;
 #[cfg(doc)]
 use crate::definitions::font_fixed::{
-    F48Dot16::f48dot16_bits,
-    Fixed::fixed_bits,
-    NumberLaws::{OnFour, ProductInOneStep, ProductLaws, QuotientInOneStep, QuotientLaws},
-    Operations::{IsMulDiv, rounded_mul_div},
+    F48Dot16_antt::f48dot16_bits,
+    Fixed_antt::fixed_bits,
+    NumberLaws_antt::{OnFour, ProductInOneStep, ProductLaws, QuotientInOneStep, QuotientLaws},
+    Operations_antt::{IsMulDiv, rounded_mul_div},
 };
 
 use crate::font_fixed::{F48Dot16, Fixed};
