@@ -1,7 +1,8 @@
 #![doc = include_str!("README.md")]
 //!
 //! The [`guide`] says which operations wrap, and how to sum deltas, to scale outlines, to read and
-//! write records, and to make types of your own.
+//! write records, and to make types of your own; [`porting`], what a program that uses `font-types`
+//! has to change.
 //!
 //! # Types
 //!
@@ -94,6 +95,12 @@ mod font_types;
 pub mod guide {}
 
 #[cfg(doc)]
+/// How to move a program from `font-types`: floats, search and replace, and every difference.
+///
+#[doc = include_str!("../docs/PORTING.md")]
+pub mod porting {}
+
+#[cfg(doc)]
 #[doc = include_str!("contracts.md")]
 #[path = "generated/definitions.rs"]
 pub mod definitions;
@@ -103,11 +110,6 @@ mod derives;
 mod literal;
 mod record;
 mod traits;
-
-// The code of this page is compiled and run; that of README.md of the repository, by `.ci/run`.
-#[cfg(doctest)]
-#[doc = include_str!("../docs/PORTING.md")]
-mod porting {}
 
 /// As in the guide, by `read_at`:
 ///
