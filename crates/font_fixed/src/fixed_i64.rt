@@ -27,10 +27,10 @@ mod f48dot16;
 
 pub use f48dot16::F48Dot16;
 
-/// Read the page of the format: [`F48Dot16`].
+/// A signed fixed-point number of 64 bits, `F` of them fraction bits.
 ///
-/// A signed fixed-point number of 64 bits, `F` of them fraction bits. The raw value is an `i64` in
-/// units of `1 / 2^F`. Sums wrap on overflow.
+/// For its functions, read the page of the format: [`F48Dot16`].
+/// The raw value is an `i64` in units of `1 / 2^F`. Sums wrap on overflow.
 ///
 /// The format also rounds, parses and prints, and has constants. Other fraction bits do not:
 ///

@@ -41,10 +41,10 @@ pub use f2dot14::F2Dot14;
 pub use f4dot12::F4Dot12;
 pub use f6dot10::F6Dot10;
 
-/// Read the page of the format: [`F2Dot14`], [`F4Dot12`] or [`F6Dot10`].
+/// A signed fixed-point number of 16 bits, `F` of them fraction bits.
 ///
-/// A signed fixed-point number of 16 bits, `F` of them fraction bits. The raw value is an `i16` in
-/// units of `1 / 2^F`. Sums wrap on overflow.
+/// For its functions, read the page of the format: [`F2Dot14`], [`F4Dot12`] or [`F6Dot10`].
+/// The raw value is an `i16` in units of `1 / 2^F`. Sums wrap on overflow.
 ///
 /// The formats also round, parse and print, and have constants. Other fraction bits do not:
 ///

@@ -36,10 +36,10 @@ pub use f2dot30::F2Dot30;
 pub use f26dot6::F26Dot6;
 pub use fixed::{Fixed, nearest_step, nearest_sum};
 
-/// Read the page of the format: [`Fixed`], [`F26Dot6`] or [`F2Dot30`].
+/// A signed fixed-point number of 32 bits, `F` of them fraction bits.
 ///
-/// A signed fixed-point number of 32 bits, `F` of them fraction bits. The raw value is an `i32` in
-/// units of `1 / 2^F`. Sums wrap on overflow.
+/// For its functions, read the page of the format: [`Fixed`], [`F26Dot6`] or [`F2Dot30`].
+/// The raw value is an `i32` in units of `1 / 2^F`. Sums wrap on overflow.
 ///
 /// The formats also round, parse and print, and have constants. Other fraction bits do not:
 ///
