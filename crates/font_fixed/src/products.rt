@@ -32,6 +32,7 @@ pub const fn mul_div(x: i32, a: i32, c: i32) -> i32
 pub const fn low_bits(n: i64) -> i32
     ensures { result ≡ wrap 32 n }
 {
+    // In Rattle, `as` may lose no bit.
     ((n << 32) >> 32) as i32
 }
 

@@ -68,6 +68,7 @@ impl DeltaSum {
     pub const fn finish(self) -> F48Dot16
         ensures { f48dot16_bits result ≡ wrap 64 (steps_of self) }
     {
+        // In Rattle, `as` may lose no bit.
         F48Dot16::from_bits(((self.steps << 64) >> 64) as i64)
     }
 

@@ -57,6 +57,7 @@ pub const fn mul_div(x: i32, a: i32, c: i32) -> i32 {
 #[must_use]
 #[inline(always)]
 pub const fn low_bits(n: i64) -> i32 {
+    // In Rattle, `as` may lose no bit.
     ((n << 32) >> 32) as i32
 }
 

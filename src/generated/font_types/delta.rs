@@ -92,6 +92,7 @@ impl DeltaSum {
     #[must_use]
     #[inline]
     pub const fn finish(self) -> F48Dot16 {
+        // In Rattle, `as` may lose no bit.
         F48Dot16::from_bits(((self.steps << 64) >> 64) as i64)
     }
 

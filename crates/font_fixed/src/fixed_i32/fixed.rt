@@ -297,6 +297,7 @@ const fn nearest_integer(delta: F48Dot16) -> i64
 const fn low_half(n: i32) -> i16
     ensures { result ≡ wrap 16 n }
 {
+    // In Rattle, `as` may lose no bit.
     ((n << 16) >> 16) as i16
 }
 

@@ -431,6 +431,7 @@ const fn nearest_integer(delta: F48Dot16) -> i64 {
 // Truncates to the low 16 bits.
 #[inline(always)]
 const fn low_half(n: i32) -> i16 {
+    // In Rattle, `as` may lose no bit.
     ((n << 16) >> 16) as i16
 }
 
