@@ -24,6 +24,10 @@ check:
 with = @unset MAKEFLAGS MFLAGS MAKELEVEL; missing=$$(for it in $(1); do command -v $$it >/dev/null || echo $$it; done | paste -sd ' ')
 with += ; [[ -z $$missing ]] || { echo "left out: $@, which needs $$missing"; exit 0; }
 
+# Ends a step in files that are no clone, as those of an archive, also inside of another clone.
+cloned = [[ -z $$(git rev-parse --show-cdup 2>&1) ]] ||
+cloned += { echo "left out: $@, which needs a clone by git"; exit 0; }
+
 rust:
 	$(call with,cargo cc rustdoc)
 	cargo test --quiet
@@ -51,6 +55,7 @@ lints:
 
 workspaces:
 	$(call with,cargo cc git)
+	$(cloned)
 	tests/workspaces
 
 # A copy of the package under the name of font-types, with what readers of fonts need, compiles.
@@ -62,6 +67,7 @@ fontations:
 
 tools:
 	$(call with,cargo cc git python3 rustfmt)
+	$(cloned)
 	$(if $(PYTHON),,echo "left out: a part of tools, which needs python3-z3")
 	python3 -B -m unittest discover -q tools/tests -p '*.py' 2>&1 | tee -a /dev/stderr |
 		grep "^Ran $$(cat tools/tests/*.py | grep -c '^    def test_') tests in" >/dev/null

@@ -87,6 +87,7 @@ class Gate(unittest.TestCase):
             self.put(path, STAND_IN)
         for name in SYSTEM.split():
             (self.folder / "bin" / name).symlink_to(shutil.which(name) or name)
+        subprocess.run(["git", "init", "--quiet", self.folder], check=True)
         self.put("src/lib.rs", "")
         self.put("tools/tests/one.py", "    def test_one(self):\n")
         self.put("crates/font_types/out/rlib/old", "")
@@ -140,6 +141,21 @@ class Gate(unittest.TestCase):
             path.rename(self.folder / "kept")
             self.assertEqual(self.run_gate(), left_out, tool)
             (self.folder / "kept").rename(path)
+
+    def test_archive(self) -> None:
+        """Files without git, as of an archive, leave out what asks git for their names."""
+        left_out = "; ".join(f"{it}, which needs a clone by git" for it in ("tools", "workspaces"))
+        for folder in self.folder, self.folder / "inner":
+            if folder != self.folder:
+                shutil.copytree(self.folder, folder, symlinks=True)
+            shutil.rmtree(folder / ".git")
+            environment = {"PATH": f"{folder}/bin", "LOG": f"{folder}/log"}
+            check = subprocess.run(
+                ["make", "check"], cwd=folder, env=environment, capture_output=True, text=True
+            )
+            told = check.stdout.splitlines()[-1].removeprefix("left out: ")
+            self.assertEqual((check.returncode, told), (0, left_out))
+            subprocess.run(["git", "init", "--quiet", self.folder], check=True)
 
     def test_steps_that_link(self) -> None:
         """Each step needs a linker, except that in which rustc only checks."""
