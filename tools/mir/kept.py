@@ -46,9 +46,11 @@ def run(root: Path, *command: str) -> str:
 
 
 def tree(root: Path) -> str:
-    """Returns which tree of `crates` is here, if git knows it."""
+    """Returns which tree of `crates` is here, if git knows it, or "" in an archive."""
     found = run(root, "git", "rev-parse", "HEAD:crates")
-    is_changed = not found or run(root, "git", "status", "--porcelain", "crates")
+    if not found:
+        return ""
+    is_changed = run(root, "git", "status", "--porcelain", "crates")
     return f"tree {'that is not committed' if is_changed else found} of crates"
 
 
