@@ -11,11 +11,14 @@ PYTHON := $(shell for it in python3 /usr/bin/python3; do $$it -c 'import z3' 2>/
 MIR := python3 tools/mir
 FETCHED := $(if $(FONT_TYPES_DIR),--offline --config 'patch.crates-io.font-types.path="$(FONT_TYPES_DIR)"')
 
+# A file for what a step prints. /dev/stderr may be of another user, whom su or sudo left.
+log = log=$$(mktemp); trap 'rm "$$log"' EXIT
+
 STEPS := rust pages lints workspaces fontations tools smt smt-checked mir c compare compared
 .PHONY: check $(STEPS)
 
 check:
-	@log=$$(mktemp); trap 'rm "$$log"' EXIT
+	@$(log)
 	status=0; $(MAKE) -kO -j"$$(nproc)" $(STEPS) 2>&1 | tee "$$log" || status=1
 	sed -n 's/^left out: //p' "$$log" | sort -u | paste -sd ';' | sed 's/;/; /g; s/^$$/nothing/; s/^/left out: /'
 	exit $$status
@@ -69,8 +72,9 @@ tools:
 	$(call with,cargo cc git python3 rustfmt)
 	$(cloned)
 	$(if $(PYTHON),,echo "left out: a part of tools, which needs python3-z3")
-	python3 -B -m unittest discover -q tools/tests -p '*.py' 2>&1 | tee -a /dev/stderr |
-		grep "^Ran $$(cat tools/tests/*.py | grep -c '^    def test_') tests in" >/dev/null
+	$(log)
+	python3 -B -m unittest discover -q tools/tests -p '*.py' 2>&1 | tee "$$log"
+	grep "^Ran $$(cat tools/tests/*.py | grep -c '^    def test_') tests in" "$$log" >/dev/null
 
 # What these two print has a line for each function, which is left out here.
 smt smt-checked:
@@ -83,7 +87,9 @@ mir:
 
 c:
 	$(call with,cargo make cc c++ pkg-config nm readelf ldd)
-	c/check | tee -a /dev/stderr | grep -x 'the library for C: all calls are right' >/dev/null
+	$(log)
+	c/check | tee "$$log"
+	grep -x 'the library for C: all calls are right' "$$log" >/dev/null
 
 # Fetches font-types, or ends a step.
 fetched = cargo fetch --quiet --manifest-path compare/Cargo.toml $(FETCHED) ||
