@@ -60,11 +60,22 @@ impl<'a, T: Scalar> ScalarArray<'a, T> {
     /// let doubled: Vec<u16> = words.iter().rev().map(|word| 2 * word).collect();
     /// assert_eq!(doubled, [18, 8, 2]);
     /// ```
+    ///
+    /// It borrows the bytes, and not the array:
+    ///
+    /// ```
+    /// # use font_types_proved::ScalarArray;
+    /// fn words(bytes: &[u8]) -> Option<impl Iterator<Item = u16>> {
+    ///     Some(ScalarArray::<u16>::new(bytes)?.iter())
+    /// }
+    /// assert!(words(&[0, 1, 0, 4]).unwrap().eq([1, 4]));
+    /// ```
     #[inline]
     #[must_use]
     pub fn iter(
         &self,
-    ) -> impl ExactSizeIterator<Item = T> + DoubleEndedIterator + FusedIterator + Clone + 'a {
+    ) -> impl ExactSizeIterator<Item = T> + DoubleEndedIterator + FusedIterator + Clone + use<'a, T>
+    {
         self.as_raw().iter().map(|raw| T::from_raw(*raw))
     }
 }
