@@ -1,0 +1,81 @@
+"""What users can name in both packages is that of `tests/api.txt`, so that a change which may break
+their code is one of that file. After an intended change: `python3 tools/tests/api.py`."""
+
+import re
+import sys
+import unittest
+from collections.abc import Iterator
+from pathlib import Path
+
+ROOT = Path(__file__).parent.parent.parent
+sys.path.append(str(ROOT / "tools/mir"))
+
+from declared import words  # noqa: E402
+
+LIST = ROOT / "tests/api.txt"
+NOT_SHOWN = re.compile(r"# \[ (?!derive|must_use|doc \( hidden|macro_export|track_caller)\w.*?\] ")
+SHOWN = re.compile(r"(?:# \[ .*?\] )*(?:pub (?!\()|impl\b|# \[ macro_export)")
+
+
+def heads(text: str) -> Iterator[tuple[str, ...]]:
+    """Yields each item, after those that it is in, up to its body, if it has one."""
+    within: list[str] = []
+    depths: list[int] = []
+    head, brackets = "", 0
+    for word in words(text, "crate").split():
+        is_use = re.match(r"(?:# \[ .*?\] )*(?:pub )?use ", head)
+        ends = ",;" if re.search(r"\b(?:struct|enum) ", "".join(within)) else ";"
+        if word in "{}" and not is_use or word in ends and not brackets:
+            yield *within, head + "{ " * (word == "{")
+            if word == "{":
+                within, depths = [*within, head], [*depths, brackets]
+            brackets = depths.pop() if word == "}" else 0
+            within = within[: len(depths)]
+            head = ""
+        else:
+            brackets += (word in "([") - (word in ")]")
+            head += f"{word} "
+
+
+def is_public(within: list[str], head: str) -> bool:
+    above = "".join(within[-1:])
+    if not head or any(re.search(r"\bfn \w|= $", it) for it in within):
+        return False
+    if "pub trait " in above or any("pub enum " in it for it in within):
+        return True
+    of_impl = re.search(r"\bimpl\b.* for ", above) and re.match("(?:const|type) ", head)
+    return bool(SHOWN.match(head) or of_impl)
+
+
+def written(head: str) -> str:
+    """Returns words with the spaces that Rust is written with."""
+    head = re.sub(r" ?:: ?", "::", head.replace("- >", "->"))
+    head = re.sub(r",(?= [)\]])", "", head)
+    head = re.sub(r"(?<=[(\[<&'#$]) | (?=[,:)\]?])| (?<!-)(?=>)", "", head)
+    return re.sub(r"(?<=[\w>]) (?=[(<!](?!-))|,$", "", head)
+
+
+def listed() -> str:
+    files = [*(ROOT / "src").glob("*.rs"), *(ROOT / "src/generated").rglob("*.rs")]
+    files += (ROOT / "variations/src").rglob("*.rs")
+    lines = []
+    for file in sorted(it for it in files if it.name != "definitions.rs"):
+        lines += ["", str(file.relative_to(ROOT))]
+        for *within, head in heads(file.read_text()):
+            head = NOT_SHOWN.sub("", head)
+            if is_public(within, head):
+                # Of a trait, what has a default.
+                is_default = "pub trait " in "".join(within[-1:]) and head.endswith("{ ")
+                shown = written(head.removesuffix("{ ").strip())
+                lines.append(" " * 4 * len(within) + shown + " { .. }" * is_default)
+    return "\n".join(lines[1:]) + "\n"
+
+
+class Api(unittest.TestCase):
+    def test_api(self) -> None:
+        self.maxDiff = None
+        self.assertMultiLineEqual(LIST.read_text(), listed())
+
+
+if __name__ == "__main__":
+    LIST.write_text(listed())
