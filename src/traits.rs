@@ -25,7 +25,7 @@ impl AsRef<str> for Shortest {
 impl Extend<(Fixed, i32)> for DeltaSum {
     fn extend<I: IntoIterator<Item = (Fixed, i32)>>(&mut self, terms: I) {
         for (scalar, delta) in terms {
-            self.add(scalar, delta);
+            self.add_product(scalar, delta);
         }
     }
 }

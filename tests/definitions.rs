@@ -167,14 +167,14 @@ fn numbers_of_ids_offsets_and_versions() {
 fn deltas() {
     let (many, mut sum) = ([(Fixed::MIN, i32::MIN); 65], DeltaSum::default());
     for (scalar, delta) in many {
-        sum.add(scalar, delta);
+        sum.add_product(scalar, delta);
         sum += DeltaSum::new();
     }
     // Exactly 65 times 2^62, of which 64 are taken again.
     assert_eq!([sum.checked_finish(), checked_delta_sum(&many)], [None; 2]);
     many[1..]
         .iter()
-        .for_each(|_| (0..2).for_each(|_| sum.add(Fixed::from_bits(1 << 30), i32::MIN)));
+        .for_each(|_| (0..2).for_each(|_| sum.add_product(Fixed::from_bits(1 << 30), i32::MIN)));
     assert_eq!(sum.checked_finish(), Some(F48Dot16::from_bits(1 << 62)));
     assert!(sum != DeltaSum::new() && checked_delta_sum(&many[..2]).is_none());
     // Partial sums beyond 64 bits, of values with a fraction.

@@ -89,7 +89,7 @@ fn sums_of_deltas() {
         let terms: Vec<(Fixed, i32)> = terms.collect();
         let (mut sum, mut wrapping) = (DeltaSum::new(), font_types::F48Dot16::ZERO);
         for &[x, delta] in pairs {
-            sum.add(Fixed::from_bits(x), delta);
+            sum.add_product(Fixed::from_bits(x), delta);
             wrapping += font_types::Fixed::from_bits(x).mul_i32(delta);
         }
         assert_eq!(sum.finish().to_bits(), wrapping.to_bits(), "{pairs:?}");

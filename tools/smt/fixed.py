@@ -173,10 +173,10 @@ deltas("UfWord", "u16", "new", "to_u16")
 SUM, NUMBER = "core::mem::transmute::<i128, DeltaSum>({})", "core::mem::transmute::<DeltaSum, i128>({})"
 NEXT = f"unsafe {{{{ let mut sum = {SUM.format('n')}; {{}}; {NUMBER.format('sum')} }}}}"
 case("DeltaSum::new", "x: i32, y: i32", "i128",
-     "unsafe { let mut sum = DeltaSum::new(); sum.add(Fixed::from_bits(x), y);"
+     "unsafe { let mut sum = DeltaSum::new(); sum.add_product(Fixed::from_bits(x), y);"
      f" {NUMBER.format('sum')} }}", lambda p, x, y: wrap(128, p.times(x, y)))
-case("DeltaSum::add", "n: i128, x: i32, y: i32", "i128",
-     NEXT.format("sum.add(Fixed::from_bits(x), y)"),
+case("DeltaSum::add_product", "n: i128, x: i32, y: i32", "i128",
+     NEXT.format("sum.add_product(Fixed::from_bits(x), y)"),
      lambda p, n, x, y: wrap(128, S(n) + p.times(x, y)))
 case("DeltaSum +=", "n: i128, m: i128", "i128", NEXT.format(f"sum += {SUM.format('m')}"),
      lambda p, n, m: wrap(128, S(n) + S(m)))

@@ -68,7 +68,7 @@ fn sum_in_range(scalars: &[i32], deltas: &[i32]) -> Option<F48Dot16>
 {
     let mut sum = DeltaSum::new();
     for i in 0..scalars.len() {
-        sum.add(Fixed::from_bits(scalars[i]), deltas[i]);
+        sum.add_product(Fixed::from_bits(scalars[i]), deltas[i]);
     }
     sum.checked_finish()
 }

@@ -91,10 +91,10 @@ fn long_sum(scalars: &[i32], set: &[u8], words: usize) -> Option<F48Dot16>
     let (wide, narrow) = set.split_at(4 * words);
     let mut sum = DeltaSum::new();
     for i in 0..of_long.len() {
-        sum.add(Fixed::from_bits(of_long[i]), long_at(wide, i));
+        sum.add_product(Fixed::from_bits(of_long[i]), long_at(wide, i));
     }
     for i in 0..of_words.len() {
-        sum.add(Fixed::from_bits(of_words[i]), i32::from(word_at(narrow, i)));
+        sum.add_product(Fixed::from_bits(of_words[i]), i32::from(word_at(narrow, i)));
     }
     sum.checked_finish()
 }

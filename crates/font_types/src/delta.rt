@@ -20,8 +20,8 @@ use std::ops::AddAssign;
 /// ```
 /// use font_types::{DeltaSum, Fixed};
 /// let mut sum = DeltaSum::new();
-/// sum.add(Fixed::from_bits(0x8000), 3);
-/// sum.add(Fixed::NEG_ONE, 2);
+/// sum.add_product(Fixed::from_bits(0x8000), 3);
+/// sum.add_product(Fixed::NEG_ONE, 2);
 /// assert_eq!(sum.finish().to_string(), "-0.5");
 /// ```
 #[derive(Clone, Copy, Debug, PartialEq, Eq, Drop)]
@@ -39,7 +39,7 @@ impl DeltaSum {
 
     /// Adds the product of a scalar and a delta in font units.
     #[tactic(auto, using(crate::proofs::SumCalls::delta_sum_calls))]
-    pub fn add(&mut self, scalar: Fixed, delta: i32)
+    pub fn add_product(&mut self, scalar: Fixed, delta: i32)
         ensures wrapped { steps_of self.new
             ≡ wrap 128 (steps_of self.old +ℤ fixed_bits scalar *ℤ delta) }
         ensures exact { FitsBits 128 (steps_of self.old +ℤ fixed_bits scalar *ℤ delta)
@@ -61,7 +61,7 @@ impl DeltaSum {
             × (unsigned_abs (steps_of self.new) ≤ unsigned_abs (steps_of self.old) + 2 ^ 62) }
     {
         let (scalar, delta) = *term;
-        self.add(scalar, delta);
+        self.add_product(scalar, delta);
     }
 
     /// Returns the sum, wrapped to 64 bits.
@@ -97,7 +97,7 @@ impl AddAssign for DeltaSum {
 /// ```
 /// use font_types::{DeltaSum, F48Dot16, Fixed};
 /// let mut sum = DeltaSum::new();
-/// sum.add(Fixed::ONE, 3);
+/// sum.add_product(Fixed::ONE, 3);
 /// sum += F48Dot16::from_bits(0x8000);
 /// assert_eq!(sum.finish().to_string(), "3.5");
 /// ```

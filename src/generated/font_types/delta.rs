@@ -25,8 +25,8 @@ use core::ops::AddAssign;
 /// ```
 /// use font_types_proved::{DeltaSum, Fixed};
 /// let mut sum = DeltaSum::new();
-/// sum.add(Fixed::from_bits(0x8000), 3);
-/// sum.add(Fixed::NEG_ONE, 2);
+/// sum.add_product(Fixed::from_bits(0x8000), 3);
+/// sum.add_product(Fixed::NEG_ONE, 2);
 /// assert_eq!(sum.finish().to_string(), "-0.5");
 /// ```
 ///
@@ -68,7 +68,7 @@ impl DeltaSum {
     /// [Notation](crate::definitions): [`steps_of`], [`wrap`], [`fixed_bits`], [`FitsBits`]
     /// </details>
     #[inline]
-    pub fn add(&mut self, scalar: Fixed, delta: i32) {
+    pub fn add_product(&mut self, scalar: Fixed, delta: i32) {
         let product = scalar.mul_i32(delta);
         self.steps = self.steps.wrapping_add(i128::from(product.to_bits()));
     }
@@ -77,7 +77,7 @@ impl DeltaSum {
     #[inline]
     fn add_term(&mut self, term: &(Fixed, i32)) {
         let (scalar, delta) = *term;
-        self.add(scalar, delta);
+        self.add_product(scalar, delta);
     }
 
     /// Returns the sum, wrapped to 64 bits.
@@ -135,7 +135,7 @@ impl AddAssign for DeltaSum {
 /// ```
 /// use font_types_proved::{DeltaSum, F48Dot16, Fixed};
 /// let mut sum = DeltaSum::new();
-/// sum.add(Fixed::ONE, 3);
+/// sum.add_product(Fixed::ONE, 3);
 /// sum += F48Dot16::from_bits(0x8000);
 /// assert_eq!(sum.finish().to_string(), "3.5");
 /// ```

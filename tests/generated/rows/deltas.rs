@@ -29,7 +29,7 @@ fn sums_that_print() -> Result<(), Fail> {
     ] {
         let (mut sum, mut added) = (DeltaSum::new(), F48Dot16::ZERO);
         for &(scalar, delta) in &terms {
-            sum.add(scalar, delta);
+            sum.add_product(scalar, delta);
             added += scalar.mul_i32(delta);
         }
         let right = F48Dot16::from_bits(bits);

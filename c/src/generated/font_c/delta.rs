@@ -53,7 +53,7 @@ pub unsafe extern "C" fn fty_checked_add_delta_u16(delta: i64, units: &mut u16) 
 fn sum_in_range(scalars: &[i32], deltas: &[i32]) -> Option<F48Dot16> {
     let mut sum = DeltaSum::new();
     for i in 0..scalars.len() {
-        sum.add(Fixed::from_bits(scalars[i]), deltas[i]);
+        sum.add_product(Fixed::from_bits(scalars[i]), deltas[i]);
     }
     sum.checked_finish()
 }
