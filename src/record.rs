@@ -1,5 +1,6 @@
 //! A macro for records of tables, and arrays as fields.
 
+use crate::font_base::SplitsBytes;
 use crate::{BeByteArray, ByteChunks, FixedSize, Scalar};
 
 /// The raw bytes of an array: those of each element.
@@ -18,6 +19,8 @@ impl<const S: usize, const N: usize> BeByteArray for [[u8; S]; N] {
         self.as_flattened()
     }
 }
+
+impl<const S: usize, const N: usize> SplitsBytes for [[u8; S]; N] {}
 
 impl<const S: usize, const N: usize> ByteChunks for [[u8; S]; N] {
     #[inline]

@@ -19,7 +19,7 @@ mod uint24;
 pub use array::{ScalarArray, ScalarArrayIter};
 pub use big_endian::BigEndian;
 pub use int24::Int24;
-pub use raw::{BeByteArray, ByteChunks, FixedSize, IdentityEq, Scalar};
+pub use raw::{BeByteArray, ByteChunks, FixedSize, IdentityEq, Scalar, SplitsBytes};
 pub use strided::records;
 pub use table_data::{SampleHeader, TableDataRef, TableHeader};
 pub use uint24::{TryFromUint24Error, Uint24};

@@ -139,8 +139,27 @@ impl<const N: usize> BeByteArray for [u8; N] {
 ///   If `LEN` is 0, there are no arrays, and all bytes are left.
 /// - `as_flattened` returns the bytes of the arrays, in order.
 ///
+/// No other crate can implement it:
+///
+/// ```compile_fail,E0277
+/// # use font_types_proved::{BeByteArray, ByteChunks};
+/// # #[derive(Clone, Copy)]
+/// # struct Mine([u8; 2]);
+/// # impl BeByteArray for Mine {
+/// #     const LEN: usize = 2;
+/// #     fn from_slice(slice: &[u8]) -> Option<Self> { slice.try_into().ok().map(Self) }
+/// #     fn as_slice(&self) -> &[u8] { &self.0 }
+/// #     fn eq_array(&self, other: &Self) -> bool { self.0 == other.0 }
+/// # }
+/// impl ByteChunks for Mine {
+/// #   fn as_chunks(bytes: &[u8]) -> (&[Self], &[u8]) { (&[], bytes) }
+/// #   fn as_flattened(_: &[Self]) -> &[u8] { &[] }
+///     // ..
+/// }
+/// ```
+///
 /// The source and its contracts: `crates/font_base/src/raw.rt`.
-pub trait ByteChunks: BeByteArray {
+pub trait ByteChunks: BeByteArray + SplitsBytes {
     /// Splits a slice into arrays, from its start, and the bytes that are left.
     ///
     /// <details><summary>Contract</summary>
@@ -167,6 +186,11 @@ pub trait ByteChunks: BeByteArray {
     #[must_use]
     fn as_flattened(arrays: &[Self]) -> &[u8];
 }
+
+// The package does not export it.
+pub trait SplitsBytes {}
+
+impl<const N: usize> SplitsBytes for [u8; N] {}
 
 impl<const N: usize> ByteChunks for [u8; N] {
     #[inline]
