@@ -383,7 +383,7 @@ fn arrays() {
         (ends.next(), ends.next_back(), ends.len(), ends.size_hint()),
         (Some(0), Some(139_998), 69_998, (69_998, Some(69_998)))
     );
-    assert_eq!(ends.as_array(), array.slice(1, 69_999).unwrap());
+    assert_eq!(ends.as_array(), array.slice(1..69_999).unwrap());
     for key in (0..42).chain((0..140_009).step_by(4321)) {
         assert_eq!(
             array.partition_point(|n| n < key),
@@ -401,7 +401,7 @@ fn arrays() {
     for (start, end) in
         [(0, 70_000), (1, 2), (3, 3), (2, 1), (0, 70_001), (70_001, 70_001), (0, usize::MAX)]
     {
-        let part = array.slice(start, end).map(|part| part.iter().collect::<Vec<_>>());
+        let part = array.slice(start..end).map(|part| part.iter().collect::<Vec<_>>());
         assert_eq!(part.as_deref(), numbers.get(start..end), "{start} to {end}");
     }
     for (offset, count, len) in [
@@ -421,8 +421,8 @@ fn arrays() {
     let field = BigEndian::<u32>::read_at(&bytes, 0x4_0004).map(|field| field.get());
     assert_eq!([u32::read_at(&bytes, 0x4_0004), field], [Some(2 * 0x1_0001); 2]);
     let none = ScalarArray::<u16>::default();
-    assert!(none.is_empty() && array.slice(0, 3) != array.slice(0, 4));
-    assert!(none != ScalarArray::new(&[0, 1]).unwrap() && array.slice(0, 2) != array.slice(1, 3));
+    assert!(none.is_empty() && array.slice(0..3) != array.slice(0..4));
+    assert!(none != ScalarArray::new(&[0, 1]).unwrap() && array.slice(0..2) != array.slice(1..3));
     assert_eq!(
         (none.first(), none.last(), none.binary_search(&1), none.into_iter().next_back()),
         (None, None, Err(0), None)

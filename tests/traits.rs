@@ -335,7 +335,7 @@ impl Scalar for Counted {
 fn decoded_elements() {
     let bytes: Vec<u8> = (0..=255).collect();
     let array = ScalarArray::<Counted>::new(&bytes).unwrap();
-    let rest = array.slice(200, 256).unwrap();
+    let rest = array.slice(200..256).unwrap();
     let raw = array.as_raw().iter().map(|raw| Counted::from_raw(*raw));
     for (decoded, last, mut found) in [
         (1, 200, Box::new(rest.iter().take(1)) as Box<dyn Iterator<Item = Counted>>),

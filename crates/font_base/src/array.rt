@@ -14,6 +14,7 @@ use crate::raw::{BeByteArray, ByteChunks, Scalar};
 use std::alloc::AllocError;
 use std::cmp::Ordering;
 use std::iter::FusedIterator;
+use std::ops::Range;
 use std::slice::Iter;
 
 /// A borrowed, big-endian array of scalars.
@@ -209,26 +210,27 @@ impl<'a, T: Scalar> ScalarArray<'a, T> {
         self.get(self.len().checked_sub(1)?)
     }
 
-    /// Returns the elements from index `start` up to index `end`, as an array, or `None` unless
-    /// `start <= end` and `end <= len()`.
+    /// Returns the elements of a range of indices, as an array, or `None` unless
+    /// `range.start <= range.end` and `range.end <= len()`.
     ///
     /// ```
     /// use font_types::ScalarArray;
     /// let array = ScalarArray::<u16>::new(&[0, 1, 0, 2, 0, 3]).unwrap();
-    /// assert_eq!(array.slice(1, 3).unwrap().as_bytes(), [0, 2, 0, 3]);
-    /// assert!(array.slice(1, 4).is_none());
+    /// assert_eq!(array.slice(1..3).unwrap().as_bytes(), [0, 2, 0, 3]);
+    /// assert!(array.slice(1..4).is_none());
     /// ```
     #[tactic(auto, using(crate::proofs::Elements::slice_rules))]
-    pub fn slice(&self, start: usize, end: usize) -> Option<ScalarArray<'a, T>>
-        ensures variant { IsSome result ↔ ((start ≤ end) × (end ≤ array_len self.now)) }
-        ensures elements { IfSome result (λ part.
-            array_elements part ≡ take (end - start) (drop start (array_elements self.now))) }
+    pub fn slice(&self, range: Range<usize>) -> Option<ScalarArray<'a, T>>
+        ensures variant { IsSome result
+            ↔ ((range.start ≤ range.end) × (range.end ≤ array_len self.now)) }
+        ensures elements { IfSome result (λ part. array_elements part
+            ≡ take (range.end - range.start) (drop range.start (array_elements self.now))) }
         ensures bytes { IfSome result (λ part. array_bytes part
-            ≡ take ((end - start) * T.RAW_BYTE_LEN)
-            (drop (start * T.RAW_BYTE_LEN) (array_bytes self.now))) }
+            ≡ take ((range.end - range.start) * T.RAW_BYTE_LEN)
+            (drop (range.start * T.RAW_BYTE_LEN) (array_bytes self.now))) }
     {
         Some(ScalarArray {
-            raw: self.raw.get(start..end)?,
+            raw: self.raw.get(range)?,
         })
     }
 
