@@ -10,7 +10,7 @@
 
 pub mod font;
 
-use font::Font;
+use font::{Font, advance_of};
 use font_types_proved::{F2Dot14, F48Dot16, Fixed, GlyphId16, Scalar, Tag, UfWord, records};
 use font_variations_proved::advances::{store_and_set, varied_by};
 use font_variations_proved::evaluator::{SegmentMaps, Setting, VariationAxisRecord};
@@ -99,13 +99,16 @@ pub fn advance(
 }
 
 /// Returns the advances of all glyphs at these coordinates, by `HVAR`: none for a glyph whose set
-/// is not there or whose advance is out of range. The scalar of each region is computed once.
+/// is not there or whose advance is out of range. The scalar of each region is computed once, and
+/// `hmtx` is found once.
 pub fn all_advances(font: &Font<'_>, coordinates: &[F2Dot14]) -> Option<Vec<Option<UfWord>>> {
     let hvar = of_version(font, b"HVAR", 1).ok()??;
     let (store, _) = store_and_set(hvar, GlyphId16::new(0))?;
     let mut scalars = vec![Fixed::ZERO; region_count(store)?.into()];
     let instance = StoreInstance::new(store, coordinates, &mut scalars)?;
-    let varied = |glyph| instance.varied(font.advance(glyph)?, store_and_set(hvar, glyph)?.1);
+    let metrics = font.long_metrics();
+    let varied =
+        |glyph| instance.varied(advance_of(metrics?, glyph)?, store_and_set(hvar, glyph)?.1);
     Some((0..font.glyph_count()?).map(GlyphId16::new).map(varied).collect())
 }
 

@@ -56,16 +56,19 @@ impl<'a> Font<'a> {
         u16::read_at(self.table(b"maxp")?, 4)
     }
 
-    /// The advance of a glyph. Glyphs past the last metric have its advance, and each a bearing,
-    /// which is not read.
-    pub fn advance(&self, glyph: GlyphId16) -> Option<UfWord> {
+    /// The metrics in `hmtx`, if it has also a bearing, which is not read, of each glyph past them.
+    pub fn long_metrics(&self) -> Option<ScalarArray<'a, LongMetric>> {
         let hmtx = self.table(b"hmtx")?;
         let count = u16::read_at(self.table(b"hhea")?, 34)?;
         let metrics = ScalarArray::<LongMetric>::read_at(hmtx, 0, count.into())?;
         let others = self.glyph_count()?.saturating_sub(count);
         ScalarArray::<FWord>::read_at(hmtx, 4 * metrics.len(), others.into())?;
-        let metric = metrics.get(glyph.into()).or(metrics.last())?;
-        Some(metric.advance)
+        Some(metrics)
+    }
+
+    /// The advance of a glyph. For many, take `long_metrics` once, and `advance_of` of each.
+    pub fn advance(&self, glyph: GlyphId16) -> Option<UfWord> {
+        advance_of(self.long_metrics()?, glyph)
     }
 
     /// The glyph of a character, by the first subtable of format 4 or 12 that has it.
@@ -80,6 +83,12 @@ impl<'a> Font<'a> {
             _ => None,
         })
     }
+}
+
+/// The advance of a glyph. Glyphs past the last metric have its advance.
+pub fn advance_of(metrics: ScalarArray<'_, LongMetric>, glyph: GlyphId16) -> Option<UfWord> {
+    let metric = metrics.get(glyph.into()).or_else(|| metrics.last())?;
+    Some(metric.advance)
 }
 
 fn of_format_4(subtable: &[u8], code: u16) -> Option<GlyphId16> {
