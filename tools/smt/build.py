@@ -17,6 +17,12 @@ HEAD = """
 pub mod wrappers {
 extern crate std;
 use super::*;
+// A check of them has one place in all wrappers, so that LLVM makes one function of those with the
+// same code.
+#[inline(always)] unsafe fn slice_of<'a, T>(first: *const T, length: usize) -> &'a [T]
+{ unsafe { core::slice::from_raw_parts(first, length) } }
+#[inline(always)] unsafe fn slice_of_mut<'a, T>(first: *mut T, length: usize) -> &'a mut [T]
+{ unsafe { core::slice::from_raw_parts_mut(first, length) } }
 """
 # The name is the one that users compile, because a function may ask for it.
 CRATE = "font_types_proved"
@@ -68,7 +74,7 @@ def wrapper(case: Case) -> str:
     for name, type_ in case.parameters:
         if type_ in SLICES:
             way, mut = ("mut", "_mut") if type_ == "room" else ("const", "")
-            pointer, of = f"*{way} {SLICES[type_]}", f"core::slice::from_raw_parts{mut}"
+            pointer, of = f"*{way} {SLICES[type_]}", f"slice_of{mut}"
             parameters += [f"{name}: {pointer}", f"{name}_length: usize"]
             value = f"let {name} = unsafe {{ {of}({name}, {name}_length) }};\n{value}"
             given += [pointer, "usize"]
