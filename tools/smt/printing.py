@@ -78,7 +78,8 @@ WRAPPER = """
 #[unsafe(no_mangle)] pub unsafe extern "C" fn {symbol}({parameters}, out: *mut u8) -> usize {{
     let decimal = {call};
     let text = decimal.as_str().as_bytes();
-    unsafe {{ core::ptr::copy_nonoverlapping(text.as_ptr(), out, text.len()) }};
+    // Checked, `copy_nonoverlapping` would compare two addresses that are unknown, on each path.
+    unsafe {{ core::ptr::copy(text.as_ptr(), out, text.len()) }};
     text.len()
 }}
 """
