@@ -114,10 +114,14 @@ def compiled(tree: Path, room: Path, wrappers: str, options: list[str]) -> str:
     module, foreign = exports(room / "c")
     with (room / "src/lib.rs").open("a") as lib:
         lib.write(f"{module}{HEAD}{foreign}{wrappers}}}\n")
-    command = ["rustc", *COMMON, *options, "--out-dir", str(room), str(room / "src/lib.rs")]
+    options = [*options, "--emit", "dep-info", "--out-dir", str(room)]
+    command = ["rustc", *COMMON, *options, str(room / "src/lib.rs")]
     done = subprocess.run(command, capture_output=True, text=True)
     if done.returncode:
         raise Refusal(done.stderr)
+    # A build of cargo has variables that this one lacks.
+    if asked := re.findall("^# env-dep:(.*)", (room / f"{CRATE}.d").read_text(), re.M):
+        raise Refusal(f"the Rust asks for {', '.join(asked)}")
     return (room / f"{CRATE}.ll").read_text()
 
 

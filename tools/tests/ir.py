@@ -337,3 +337,5 @@ class Reader(unittest.TestCase):
         name = manifest["package"]["name"].replace("-", "_")
         named = f'module_path!().starts_with("{name}::")'
         self.assertEqual(told(BUILT, f'{named} && cfg!(panic = "unwind")'), "i1 true")
+        with self.assertRaisesRegex(AssertionError, "the Rust asks for CARGO"):
+            told(BUILT, 'option_env!("CARGO").is_some()')
