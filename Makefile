@@ -74,7 +74,8 @@ tools:
 	$(if $(PYTHON),,echo "left out: a part of tools, which needs python3-z3")
 	$(log)
 	python3 -B -m unittest discover -q tools/tests -p '*.py' 2>&1 | tee "$$log"
-	grep "^Ran $$(cat tools/tests/*.py | grep -c '^    def test_') tests in" "$$log" >/dev/null
+	told="Ran $$(cat tools/tests/*.py | grep -c '^    def test_') tests in .*|OK$(if $(PYTHON),,.*)"
+	[[ $$(grep -cxE "$$told" "$$log") == 2 ]]
 
 # What these two print has a line for each function, which is left out here.
 smt smt-checked:
