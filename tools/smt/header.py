@@ -38,9 +38,22 @@ BUILDS = {
     "big-endian": "--target=s390x-linux-gnu -ffreestanding",
     "32-bit": "--target=wasm32-unknown-unknown -ffreestanding",
 }
+# What conditions of the header ask for. Of a macro that a program defines, nothing would be proved.
+ASKED = set(
+    "FONT_TYPES_H SIZE_MAX __BYTE_ORDER__ __GNUC__ __INT_MAX__ __ORDER_LITTLE_ENDIAN__ _MSVC_LANG "
+    "__STDC_VERSION__ __builtin_bswap64 __builtin_is_constant_evaluated __clang__ __cplusplus "
+    "__has_builtin defined".split()
+)
+CONDITION = re.compile(r"^[ \t]*(?:#|%:)[ \t]*(?:el)?if(?:n?def)?\b((?:.*\\\n)*.*)", re.M)
 HEADER = Path(__file__).resolve().parents[2] / "c/include"
 # The most goals of a row, so that a wrong loop ends. No row has half as many.
 GOALS = 100
+
+
+def asked(text: str) -> set[str]:
+    """Returns the names that conditions of a header ask for, except those that are known."""
+    code = re.sub(r"/\*.*?\*/", " ", text, flags=re.S)
+    return set(re.findall(r"\b[A-Za-z_]\w*", " ".join(CONDITION.findall(code)))) - ASKED
 
 
 class Row(Proof):
@@ -91,6 +104,9 @@ def main() -> int:
         print("\n".join(BUILDS))
         return 0
     text = (options.folder / "font_types.h").read_text()
+    if others := asked(text):
+        print(f"conditions of the header ask for {' '.join(sorted(others))}")
+        return 1
     functions = re.findall(r"^FTY_API_(INLINE|RUN|STATIC) .*\b(fty_(?!api_)\w+)\(", text, re.M)
     called = set(re.findall(r"fty_\w+", " ".join(it.body for it in ROWS)))
     if options.constants:
@@ -106,6 +122,9 @@ def main() -> int:
     if options.program or options.constants:
         return 0
     builds = options.builds.split(",")
+    if not any(re.search(options.only, it.name) for it in ROWS):
+        print(f"no row has the pattern {options.only}")
+        return 1
     return int(sum(prove(options.folder, it, options.only) for it in builds) > 0)
 
 

@@ -292,6 +292,13 @@ print(json.dumps(ir.split("@asked()")[1].split("}")[0].split("ret ")[1].strip())
 """
 
 
+ASKED = """
+import json, sys
+from header import asked
+print(json.dumps(sorted(asked(json.load(sys.stdin)))))
+"""
+
+
 def told(script: str, given: object = None) -> Any:
     """Returns what a script with the files of the second proof prints."""
     command = ["/usr/bin/python3", "-B", "-c", script]
@@ -339,3 +346,8 @@ class Reader(unittest.TestCase):
         self.assertEqual(told(BUILT, f'{named} && cfg!(panic = "unwind")'), "i1 true")
         with self.assertRaisesRegex(AssertionError, "the Rust asks for CARGO"):
             told(BUILT, 'option_env!("CARGO").is_some()')
+
+    def test_conditions_of_the_header_are_known(self) -> None:
+        text = (TOOL / "../../c/include/font_types.h").read_text()
+        self.assertEqual(told(ASKED, text), [])
+        self.assertEqual(told(ASKED, f"{text}#if 1 /* */ \\\n && defined NDEBUG\n"), ["NDEBUG"])
