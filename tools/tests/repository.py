@@ -172,11 +172,13 @@ class Pages(unittest.TestCase):
             self.assertRegex(cells[alias], rf"`\W*{name}\b", alias)
 
     def test_lists_of_formats(self) -> None:
-        """A list that has all formats but one is not whole, with its texts or without them. Of those
-        of `font-types`, `compare/compared` sees each function."""
+        """A list that has all formats but one is not whole, with its texts or without them, and no
+        file of code is. Of those of `font-types`, `compare/compared` sees each function."""
         known, wrong = formats(), []
         for path in of("", ".rs", ".rt", ".antt", ".py", ".h", ".c", ".cpp", ".md"):
-            for it in lists(text(path), path.endswith(".md")) if path[:8] != "compare/" else ():
+            whole, is_page = text(path), path.endswith(".md")
+            parts = [*lists(whole, is_page), *([] if is_page else [whole])]
+            for it in parts if path[:8] != "compare/" else ():
                 for shown in it, re.sub(r'"[^"\n]*"', '""', it):
                     left_out = [name for name in known if not re.search(known[name], shown)]
                     if len(left_out) == 1:
