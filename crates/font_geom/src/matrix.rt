@@ -243,6 +243,7 @@ impl Matrix<Fixed> {
     /// Returns `self * other`, or `None` if one of its entries overflows. Intermediate sums may
     /// overflow.
     // #[doc(alias = "FT_Matrix_Multiply")]
+    #[tactic(auto, using(crate::proofs::Bounds::affine_zero))]
     pub const fn checked_mul(self, other: Self) -> Option<Self>
         ensures variant { IsSome result ↔ FitsEach (FitsBits 32)
             (rounded_matrix_product (matrix_bits self) (matrix_bits other)) }
