@@ -12,48 +12,46 @@ pub mod font;
 
 use font::{Font, advance_of};
 use font_types_proved::{F2Dot14, F48Dot16, Fixed, GlyphId16, Scalar, Tag, UfWord, records};
-use font_variations_proved::advances::{store_and_set, varied_by};
-use font_variations_proved::evaluator::{SegmentMaps, Setting, VariationAxisRecord};
-use font_variations_proved::evaluator::{final_coordinate, normalize, read_axis, read_setting};
-use font_variations_proved::instances::{StoreInstance, region_count};
-use font_variations_proved::maps::DeltaSetIndex;
+use font_variations_proved::{Avar, DeltaSetIndex, Fvar, Hvar, ItemVariationStore};
+use font_variations_proved::{SegmentMap, SegmentMaps, Setting, VariationAxisRecord};
 
-/// A table, which must be of this major version, if the font has it.
-fn of_version<'a>(
+/// A table, which must be one that `read` takes, if the font has it.
+fn table<'a, T>(
     font: &Font<'a>,
     tag: &[u8; 4],
-    version: u16,
-) -> Result<Option<&'a [u8]>, String> {
-    match font.table(tag) {
-        Some(table) if u16::read_at(table, 0) != Some(version) => {
-            Err(format!("{}: not of version {version}", Tag::new(tag)))
-        }
-        table => Ok(table),
-    }
+    read: impl Fn(&'a [u8]) -> Option<T>,
+) -> Result<Option<T>, String> {
+    let table = font.table(tag).map(read);
+    table
+        .map(|table| {
+            table.ok_or_else(|| format!("{}: of another version, or too short", Tag::new(tag)))
+        })
+        .transpose()
+}
+
+/// The bytes of a table of this major version.
+fn of_version(version: u16) -> impl Fn(&[u8]) -> Option<&[u8]> {
+    move |table| (u16::read_at(table, 0)? == version).then_some(table)
 }
 
 /// The glyph of a character, 0 if the font has none for it.
 pub fn glyph(font: &Font<'_>, character: char) -> Result<GlyphId16, String> {
-    of_version(font, b"cmap", 0)?;
+    table(font, b"cmap", of_version(0))?;
     Ok(font.glyph(character).unwrap_or_default())
 }
 
 /// The axes of a font, none if it is not variable.
 pub fn axes(font: &Font<'_>) -> Result<Vec<VariationAxisRecord>, String> {
-    let Some(fvar) = of_version(font, b"fvar", 1)? else {
+    let Some(fvar) = table(font, b"fvar", Fvar::new)? else {
         return Ok(Vec::new());
     };
-    read_axes(fvar).ok_or("`fvar` ends before its axes".into())
-}
-
-fn read_axes(fvar: &[u8]) -> Option<Vec<VariationAxisRecord>> {
-    let [start, count, size] = [4, 8, 10].map(|field| u16::read_at(fvar, field).map(usize::from));
-    records(fvar, start?, count?, size?)?.map(read_axis).collect()
+    let axes: Option<_> = (0..fvar.axis_count()).map(|index| fvar.axis(index)).collect();
+    axes.ok_or("`fvar` ends before its axes".into())
 }
 
 /// The maps of the axes in `avar`, if the font has it.
 pub fn segment_maps<'a>(font: &Font<'a>) -> Result<Option<SegmentMaps<'a>>, String> {
-    Ok(of_version(font, b"avar", 1)?.map(SegmentMaps::new))
+    Ok(table(font, b"avar", Avar::new)?.map(|avar| avar.segment_maps()))
 }
 
 /// The coordinate of a value of the next axis, from -1 to 1. To take the maps in turn is linear in
@@ -64,14 +62,12 @@ pub fn normalized(
     value: Fixed,
 ) -> Result<F2Dot14, String> {
     let coordinate =
-        normalize(value, axis).ok_or_else(|| format!("{}: an invalid axis", axis.axis_tag))?;
+        axis.normalize(value).ok_or_else(|| format!("{}: an invalid axis", axis.axis_tag))?;
     let map = match maps {
-        Some(maps) => {
-            maps.next_map().ok_or_else(|| format!("{}: no map in `avar`", axis.axis_tag))?
-        }
-        None => &[],
+        Some(maps) => maps.next().ok_or_else(|| format!("{}: no map in `avar`", axis.axis_tag))?,
+        None => SegmentMap::default(),
     };
-    Ok(final_coordinate(coordinate, map))
+    Ok(map.final_coordinate(coordinate))
 }
 
 /// The advance of a glyph at these coordinates, rounded; that of `hmtx` if the font is not variable
@@ -81,7 +77,7 @@ pub fn advance(
     glyph: GlyphId16,
     coordinates: &[F2Dot14],
 ) -> Result<UfWord, String> {
-    of_version(font, b"hhea", 1)?;
+    table(font, b"hhea", of_version(1))?;
     if glyph.to_u16() >= font.glyph_count().ok_or("no `maxp`")? {
         return Err("no such glyph".into());
     }
@@ -89,9 +85,9 @@ pub fn advance(
     if font.table(b"fvar").is_none() {
         return Ok(base);
     }
-    match of_version(font, b"HVAR", 1)? {
-        Some(hvar) => store_and_set(hvar, glyph)
-            .and_then(|(store, set)| varied_by(base, store, set, coordinates))
+    match table(font, b"HVAR", Hvar::new)? {
+        Some(hvar) => varied(font, &hvar, coordinates, [glyph].into_iter())
+            .and_then(|advances| advances[0])
             .ok_or_else(|| format!("glyph {}: no advance by `HVAR`", glyph.to_u16())),
         None if font.table(b"gvar").is_some() => Err("`gvar` without `HVAR`".into()),
         None => Ok(base),
@@ -99,27 +95,35 @@ pub fn advance(
 }
 
 /// Returns the advances of all glyphs at these coordinates, by `HVAR`: none for a glyph whose set
-/// is not there or whose advance is out of range. The scalar of each region is computed once, and
-/// `hmtx` is found once.
+/// is not there or whose advance is out of range.
 pub fn all_advances(font: &Font<'_>, coordinates: &[F2Dot14]) -> Option<Vec<Option<UfWord>>> {
-    let hvar = of_version(font, b"HVAR", 1).ok()??;
-    let (store, _) = store_and_set(hvar, GlyphId16::new(0))?;
-    let mut scalars = vec![Fixed::ZERO; region_count(store)?.into()];
-    let instance = StoreInstance::new(store, coordinates, &mut scalars)?;
+    let hvar = table(font, b"HVAR", Hvar::new).ok()??;
+    varied(font, &hvar, coordinates, (0..font.glyph_count()?).map(GlyphId16::new))
+}
+
+/// Returns the advances of these glyphs. The scalar of each region is computed once, and `hmtx` is
+/// found once.
+fn varied(
+    font: &Font<'_>,
+    hvar: &Hvar<'_>,
+    coordinates: &[F2Dot14],
+    glyphs: impl Iterator<Item = GlyphId16>,
+) -> Option<Vec<Option<UfWord>>> {
+    let mut scalars = vec![Fixed::ZERO; hvar.store().region_count().into()];
+    let instance = hvar.store().at(coordinates, &mut scalars)?;
     let metrics = font.long_metrics();
-    let varied =
-        |glyph| instance.varied(advance_of(metrics?, glyph)?, store_and_set(hvar, glyph)?.1);
-    Some((0..font.glyph_count()?).map(GlyphId16::new).map(varied).collect())
+    let vary = |glyph| instance.vary(advance_of(metrics?, glyph)?, hvar.advance_set(glyph)?);
+    Some(glyphs.map(vary).collect())
 }
 
 /// The deltas of the font's metrics at these coordinates, by `MVAR`: of `xhgt`, the height of an x,
 /// and others.
 pub fn metrics(font: &Font<'_>, coordinates: &[F2Dot14]) -> Option<Vec<(Tag, F48Dot16)>> {
-    let mvar = of_version(font, b"MVAR", 1).ok()??;
+    let mvar = table(font, b"MVAR", of_version(1)).ok()??;
     let [size, count, store] = [6, 8, 10].map(|field| u16::read_at(mvar, field).map(usize::from));
-    let store = mvar.get(store?..)?;
-    let mut scalars = vec![Fixed::ZERO; region_count(store)?.into()];
-    let instance = StoreInstance::new(store, coordinates, &mut scalars)?;
+    let store = ItemVariationStore::new(mvar.get(store?..)?)?;
+    let mut scalars = vec![Fixed::ZERO; store.region_count().into()];
+    let instance = store.at(coordinates, &mut scalars)?;
     let delta = |record| {
         let set = DeltaSetIndex::from_u32(u32::read_at(record, 4)?);
         Some((Tag::read_at(record, 0)?, instance.delta(set)?))
@@ -129,7 +133,7 @@ pub fn metrics(font: &Font<'_>, coordinates: &[F2Dot14]) -> Option<Vec<(Tag, F48
 
 /// The setting that a word is, of an axis that the font has.
 fn setting(word: &str, axes: &[VariationAxisRecord]) -> Result<Setting, String> {
-    let setting = read_setting(word).map_err(|error| format!("{word}: {error}"))?;
+    let setting: Setting = word.parse().map_err(|error| format!("{word}: {error}"))?;
     if !axes.iter().any(|axis| axis.axis_tag == setting.axis) {
         return Err(format!("{word}: the font has no such axis"));
     }

@@ -11,12 +11,8 @@ mod runner;
 
 use dump::dump;
 use font_types_proved::{F2Dot14, F48Dot16, Fixed, GlyphId16, Tag, UfWord};
-use font_variations_proved::advances::{store_and_set, varied_by};
-use font_variations_proved::delta_sets::{read_delta, set_sum};
-use font_variations_proved::evaluator::{Setting, read_setting, segment_map};
-use font_variations_proved::instances::{StoreInstance, region_count};
-use font_variations_proved::maps::{DeltaSetIndex, read_delta_set_index};
-use font_variations_proved::regions::region_scalar;
+use font_variations_proved::{Avar, DeltaSetIndex, DeltaSetIndexMap, Hvar};
+use font_variations_proved::{ItemVariationStore, SegmentMap, Setting};
 use fonts::{MAP, MAPS, at_the_limits, font, font_of, fvar, hvar, hvar_of_two_axes};
 use fonts::{long_axes, of_five_axes, two_axes, variations, words};
 use instance::{advance, all_advances, axes, metrics, normalized, segment_maps};
@@ -30,6 +26,13 @@ fn file(bytes: &[u8]) -> PathBuf {
     let path = Path::new(env!("CARGO_TARGET_TMPDIR")).join(test.name().unwrap());
     fs::write(&path, bytes).unwrap();
     path
+}
+
+/// Varies an advance by a set of a store.
+fn varied(advance: u16, store: &[u8], set: DeltaSetIndex, at: &[F2Dot14]) -> Option<UfWord> {
+    let store = ItemVariationStore::new(store)?;
+    let mut scalars = vec![Fixed::ZERO; store.region_count().into()];
+    store.at(at, &mut scalars)?.vary(UfWord::new(advance), set)
 }
 
 /// Runs a program of `examples`, and returns its output and what it says of an error. `cargo test`
@@ -268,7 +271,7 @@ fn advances_by_freetype() {
         let store = words(&[1, 0, 12, 1, 0, 12 + list.len() as u16]);
         let store = [store, list, words(&data)].concat();
         let set = DeltaSetIndex { outer: 0, inner: 0 };
-        let found = varied_by(UfWord::new(base), &store, set, &at);
+        let found = varied(base, &store, set, &at);
         assert_eq!(found, Some(UfWord::new(wanted)), "{at:?}");
     }
 }
@@ -308,7 +311,7 @@ fn metrics_along_two_axes() {
     short[11] = 12;
     let bytes = font_of([(b"fvar", short)]);
     let axes = axes(&instance::font::Font::new(&bytes).unwrap());
-    assert_eq!(axes.unwrap_err(), "`fvar` ends before its axes");
+    assert_eq!(axes.unwrap_err(), "fvar: of another version, or too short");
 }
 
 // fontTools 4.38 gives these numbers, by these lines, the second if there is a table `avar`:
@@ -383,7 +386,7 @@ fn program_instance() {
 // As in a `main` that ends with the error.
 #[test]
 fn error_of_a_setting() {
-    let read = |text| -> Result<Setting, Box<dyn Error>> { Ok(read_setting(text)?) };
+    let read = |text: &str| -> Result<Setting, Box<dyn Error>> { Ok(text.parse()?) };
     assert_eq!(read("wght").unwrap_err().to_string(), "no `=`");
 }
 
@@ -432,14 +435,20 @@ fn program_instance_of_other_tables() {
     for (font, error) in [
         (font_of([]), "wght=650: the font has no such axis"),
         (font_of([axes.clone(), gvar]), "`gvar` without `HVAR`"),
-        (font_of([second(axes.clone())]), "fvar: not of version 1"),
-        (font_of([axes.clone(), second(map.clone())]), "avar: not of version 1"),
-        (font_of([axes.clone(), second(hvar)]), "HVAR: not of version 1"),
-        (font_of([axes.clone(), (b"hhea", words(&[7, 0]))]), "hhea: not of version 1"),
-        (font_of([axes.clone(), (b"cmap", words(&[7, 0]))]), "cmap: not of version 0"),
+        (font_of([second(axes.clone())]), "fvar: of another version, or too short"),
+        (font_of([axes.clone(), second(map.clone())]), "avar: of another version, or too short"),
+        (font_of([axes.clone(), second(hvar)]), "HVAR: of another version, or too short"),
+        (
+            font_of([axes.clone(), (b"hhea", words(&[7, 0]))]),
+            "hhea: of another version, or too short",
+        ),
+        (
+            font_of([axes.clone(), (b"cmap", words(&[7, 0]))]),
+            "cmap: of another version, or too short",
+        ),
         (font_of([axes.clone(), (b"maxp", words(&[0, 0x5000, 47]))]), "no such glyph"),
         (font_of([axes.clone(), more_sets]), "glyph 47: no advance by `HVAR`"),
-        (font_of([axes.clone(), other_store]), "glyph 47: no advance by `HVAR`"),
+        (font_of([axes.clone(), other_store]), "HVAR: of another version, or too short"),
         (font_of([axes.clone(), (b"HVAR", two)]), "glyph 47: no advance by `HVAR`"),
         (font_of([not_in_order]), "wght: an invalid axis"),
         (font_of([too_wide]), "wght: an invalid axis"),
@@ -506,18 +515,26 @@ fn program_instance_of_two_axes() {
     assert!(found.contains("-- FONT TEXT"), "{found}");
 }
 
-// A set or a column at the count, and an outer index of 17 bits.
+/// Returns the sum of a set of a store that has this subtable, where the regions are 0, whose scalar
+/// is 1, and 1, whose scalar is 0.
+fn sum(subtable: &[u8], inner: u32) -> Option<F48Dot16> {
+    let regions = words(&[1, 2, 0, 0x4000, 0x4000, 0xC000, 0xC000, 0]);
+    let store = [&words(&[1, 0, 12, 1, 0, 28])[..], &regions, subtable].concat();
+    let (at, mut scalars) = ([F2Dot14::ONE], [Fixed::ZERO; 2]);
+    let instance = ItemVariationStore::new(&store)?.at(&at, &mut scalars)?;
+    instance.delta(DeltaSetIndex { outer: 0, inner })
+}
+
+// A set at the count, a region that is not there, and an outer index of 17 bits.
 #[test]
 fn delta_sets_at_the_count() {
-    let subtable = words(&[1, 1, 1, 0, 5, 6, 7]);
-    let found = [(0, 0), (1, 0), (0, 1)].map(|(set, column)| read_delta(&subtable, set, column));
-    assert_eq!(found, [Some(5), None, None]);
-    for table in [words(&[1, 0, 0]), subtable] {
-        assert_eq!(set_sum(&words(&[0, 1]), &table, 1, &[]), None);
-    }
+    let of = |region| words(&[1, 1, 1, region, 5, 6, 7]);
+    let found = [(0, 0), (1, 0), (0, 1), (0, 2)].map(|(set, region)| sum(&of(region), set));
+    assert_eq!(found, [Some(F48Dot16::from_i32(5)), None, Some(F48Dot16::ZERO), None]);
+    assert_eq!(sum(&words(&[1, 0, 0]), 1), None);
     let map = [1, 0x30, 0, 0, 0, 1, 0, 2, 0, 1];
     let set = DeltaSetIndex { outer: 0x1_0000, inner: 1 };
-    assert_eq!(read_delta_set_index(&map, 0), Some(set));
+    assert_eq!(DeltaSetIndexMap::new(&map).unwrap().get(0), Some(set));
 }
 
 // Deltas of four, two and one bytes in the second set: three wide columns and two narrow ones.
@@ -530,9 +547,13 @@ fn wide_and_narrow_columns() {
         (3, of_16.concat(), [-1, 300, -32_768, -128, 127]),
         (0x8003, of_32.concat(), [-1, 70_000, i32::MIN, -300, 32_767]),
     ] {
-        let subtable = [words(&[2, wide, 5, 0, 0, 0, 0, 0]), vec![0x55; row.len()], row].concat();
-        let found = [0, 1, 2, 3, 4].map(|column| read_delta(&subtable, 1, column));
-        assert_eq!(found, deltas.map(Some), "{wide:#X}");
+        let found = [0, 1, 2, 3, 4].map(|column| {
+            let mut regions = [1; 5];
+            regions[column] = 0;
+            let head = words(&[&[2, wide, 5][..], &regions].concat());
+            sum(&[head, vec![0x55; row.len()], row.clone()].concat(), 1)
+        });
+        assert_eq!(found, deltas.map(|delta| Some(F48Dot16::from_i32(delta))), "{wide:#X}");
     }
 }
 
@@ -573,7 +594,7 @@ fn tables_that_end_early() {
     let ends = text.starts_with("head version: ") && text.ends_with("\nFAMILY_NAME: Ütest\n");
     assert!(ends, "{text}");
     let font = instance::font::Font::new(&bytes).unwrap();
-    assert!(axes(&font).is_err_and(|text| text == "fvar: not of version 1"));
+    assert!(axes(&font).is_err_and(|text| text == "fvar: of another version, or too short"));
     // The last table ends after the file.
     let bytes = font_of([]);
     let font = dump::font::Font::new(&bytes[..bytes.len() - 1]).unwrap();
@@ -593,50 +614,49 @@ fn programs_of_other_files() {
     }
 }
 
+// One region, whose scalar is 1 at its peak, and one set, of a delta of 40.
+const HVAR_OF_ONE: [u8; 52] = [
+    0, 1, 0, 0, 0, 0, 0, 20, 0, 0, 0, 0, 0, 0, 0, 0, 0, 0, 0, 0, 0, 1, 0, 0, 0, 12, 0, 1, 0, 0, 0,
+    22, 0, 1, 0, 1, 0, 0, 0x40, 0, 0x40, 0, 0, 1, 0, 1, 0, 1, 0, 0, 0, 40,
+];
+
 // What ends early, or is counted too high, gives no advance, and none is out of range.
 #[test]
 fn variations_that_are_refused() {
-    let hvar = [
-        0, 1, 0, 0, 0, 0, 0, 20, 0, 0, 0, 0, 0, 0, 0, 0, 0, 0, 0, 0, 0, 1, 0, 0, 0, 12, 0, 1, 0, 0,
-        0, 22, 0, 1, 0, 1, 0, 0, 0x40, 0, 0x40, 0, 0, 1, 0, 1, 0, 1, 0, 0, 0, 40,
-    ];
-    let (glyph, peak) = (GlyphId16::new(0), [F2Dot14::ONE]);
-    let (store, set) = store_and_set(&hvar, glyph).unwrap();
+    let (peak, hvar) = ([F2Dot14::ONE], Hvar::new(&HVAR_OF_ONE).unwrap());
+    let (store, set) = (hvar.store(), hvar.advance_set(GlyphId16::new(0)).unwrap());
     let mut scalars = [Fixed::ZERO];
-    let instance = StoreInstance::new(store, &peak, &mut scalars).unwrap();
+    let instance = store.at(&peak, &mut scalars).unwrap();
     for (advance, varied) in [(0xFFD7, Some(0xFFFF)), (0xFFD8, None)] {
-        let (advance, varied) = (UfWord::new(advance), varied.map(UfWord::new));
-        assert_eq!(varied_by(advance, store, set, &peak), varied);
-        assert_eq!(instance.varied(advance, set), varied);
+        assert_eq!(instance.vary(UfWord::new(advance), set), varied.map(UfWord::new));
     }
-    // No room for the scalar of the second region, and a store of format 2: nothing is written.
+    // No room for the scalar of the second region: nothing is written.
+    let store = &HVAR_OF_ONE[20..];
     let mut of_two = store.to_vec();
     of_two[15] = 2;
-    let of_format_2 = [&[0, 2][..], &of_two[2..]].concat();
-    for (store, room) in [(&of_two, 1), (&of_format_2, 4)] {
-        let mut scalars = vec![Fixed::MIN; room];
-        assert!(StoreInstance::new(store, &peak, &mut scalars).is_none(), "{store:?}");
-        assert_eq!(scalars, vec![Fixed::MIN; room], "{store:?}");
-    }
+    let two = ItemVariationStore::new(&of_two).unwrap();
+    let mut scalars = [Fixed::MIN];
+    assert!(two.at(&peak, &mut scalars).is_none());
+    assert_eq!(scalars, [Fixed::MIN]);
     // What is behind the last region is as before.
     let mut scalars = [Fixed::MIN; 3];
-    assert!(StoreInstance::new(&of_two, &peak, &mut scalars).is_some());
+    assert!(two.at(&peak, &mut scalars).is_some());
     assert_eq!(scalars[2..], [Fixed::MIN]);
+    // A store of format 2.
+    assert!(ItemVariationStore::new(&[&[0, 2][..], &of_two[2..]].concat()).is_none());
     // Seven subtables, whose offsets would end after the store.
     let mut of_seven = store.to_vec();
     of_seven[7] = 7;
-    assert_eq!(varied_by(UfWord::new(500), &of_seven, set, &peak), None);
+    assert_eq!(varied(500, &of_seven, set, &peak), None);
     // The offset of the regions, or of the subtable, is null.
     for offset in [2, 8] {
         let mut null = store.to_vec();
         null[offset..offset + 4].fill(0);
-        assert_eq!(varied_by(UfWord::new(500), &null, set, &peak), None);
-        let mut scalars = [Fixed::ZERO; 9];
-        let instance = StoreInstance::new(&null, &peak, &mut scalars);
-        assert_eq!(instance.and_then(|instance| instance.varied(UfWord::new(500), set)), None);
+        assert_eq!(varied(500, &null, set, &peak), None);
     }
-    assert!(store_and_set(&[0, 1, 0, 0, 0, 0, 0, 8, 0, 0, 0], glyph).is_none());
-    assert!(segment_map(&[0, 1, 0, 0, 0, 0, 0, 0, 0, 0], 0).is_none());
+    assert!(Hvar::new(&[0, 1, 0, 0, 0, 0, 0, 8, 0, 0, 0]).is_none());
+    let avar = Avar::new(&[0, 1, 0, 0, 0, 0, 0, 0, 0, 0]).unwrap();
+    assert!(avar.segment_map(0).is_none());
 }
 
 // The scalar of an axis that is far from the first.
@@ -649,26 +669,30 @@ fn regions_of_many_axes() {
         let mut coordinates = vec![F2Dot14::ZERO; axes.into()];
         *coordinates.last_mut().unwrap() = F2Dot14::from_bits(0x1000);
         let scalar = Fixed::from_bits(0x4000);
-        assert_eq!(region_scalar(&list, 0, &coordinates), Some(scalar), "{axes}");
         let subtable = words(&[1, 1, 1, 0, 400]);
         let store = [&words(&[1, 0, 12, 1])[..], &(12 + list.len() as u32).to_be_bytes()].concat();
         let store = [store, list, subtable].concat();
-        assert_eq!((region_count(&store), region_count(&store[..15])), (Some(1), None));
+        let count = |store| ItemVariationStore::new(store).map(|store| store.region_count());
+        assert_eq!((count(&store), count(&store[..15])), (Some(1), Some(0)));
         let mut scalars = [Fixed::ZERO; 1];
-        let instance = StoreInstance::new(&store, &coordinates, &mut scalars).unwrap();
+        let of_one = ItemVariationStore::new(&store).unwrap();
+        let instance = of_one.at(&coordinates, &mut scalars).unwrap();
         let set = DeltaSetIndex { outer: 0, inner: 0 };
         assert_eq!(instance.scalar(0), Some(scalar), "{axes}");
         assert_eq!(instance.delta(set), Some(F48Dot16::from_i32(100)), "{axes}");
-        assert_eq!(varied_by(UfWord::new(500), &store, set, &coordinates), Some(UfWord::new(600)));
+        assert_eq!(instance.vary(UfWord::new(500), set), Some(UfWord::new(600)));
     }
 }
 
 #[test]
 fn long_maps() {
     let avar = [words(&[1, 0, 0, 2, 40_000]), vec![0; 160_000], words(&[1, 7, 9])].concat();
-    let found = [0, 1].map(|axis| segment_map(&avar, axis).unwrap());
-    assert_eq!((found[0].len(), found[1]), (160_000, &[0, 7, 0, 9][..]));
+    let avar = Avar::new(&avar).unwrap();
+    let maps: Vec<SegmentMap<'_>> = avar.segment_maps().collect();
+    assert_eq!([Some(maps[0]), Some(maps[1])], [0, 1].map(|axis| avar.segment_map(axis)));
+    let mapped = maps.iter().map(|map| map.map(Fixed::from_bits(28)).to_bits());
+    assert_eq!(mapped.collect::<Vec<_>>(), [28, 36]);
     let map = [words(&[0x10, 40_000]), (0..40_000_u16).flat_map(u16::to_be_bytes).collect()];
     let set = DeltaSetIndex { outer: 39_999 >> 1, inner: 1 };
-    assert_eq!(read_delta_set_index(&map.concat(), 39_999), Some(set));
+    assert_eq!(DeltaSetIndexMap::new(&map.concat()).unwrap().get(39_999), Some(set));
 }

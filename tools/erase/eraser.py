@@ -68,7 +68,6 @@ DERIVED = {
     "SampleHeader": "Clone, Copy, Debug",
     "TryFromGlyphIdError": "Clone, Copy, PartialEq, Eq",
     "TryFromUint24Error": "Clone, Copy, PartialEq, Eq",
-    "VariationAxisRecord": "Debug, PartialEq",
 }
 
 # Errors that are `Copy` in Rust. A derived `Copy` would change what the derived `Clone` does.

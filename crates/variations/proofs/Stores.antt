@@ -155,3 +155,5 @@ row_of_delta subtable set column has =
     }
 
 pub ruleset row_rules = (region_at_most, place_in_row, row_of_delta, scalar_at)
+
+pub ruleset region_rules = (row_rules, scalar_is_near)

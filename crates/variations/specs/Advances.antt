@@ -18,6 +18,23 @@ pub record HasTarget (table : List ℕ) (place : ℕ) : Type 0 where
 abbrev pub target_of : List ℕ → ℕ → List ℕ
 target_of table place = drop (offset_at table place) table
 
+-- the store is of format 1, and has a list of regions
+pub record HasRegionList (store : List ℕ) : Type 0 where
+  pub format : numeral (take 2 store) ≡ 1
+  pub list : HasTarget store 2
+
+-- ---- HVAR (OpenType, HVAR: majorVersion at 0, itemVariationStoreOffset at 4, and a header of 20 bytes)
+
+abbrev pub hvar_version : List ℕ → ℕ
+hvar_version hvar = numeral (take 2 hvar)
+
+-- a table of major version 1, with the whole header and a store
+pub record IsHvar (hvar : List ℕ) : Type 0 where
+  pub version : hvar_version hvar ≡ 1
+  pub header : 20 ≤ length hvar
+  pub store : HasTarget hvar 4
+  pub list : HasRegionList (target_of hvar 4)
+
 -- ---- the delta set of a glyph (OpenType, HVAR: itemVariationStoreOffset at 4, advanceWidthMappingOffset at 8; without
 -- a map, the outer index is zero and the inner index is the glyph)
 
@@ -43,11 +60,6 @@ data_count store = numeral (take 2 (drop 6 store))
 -- where the offset of a subtable is
 abbrev pub data_place : ℕ → ℕ
 data_place outer = 8 + 4 * outer
-
--- the store is of format 1, and has a list of regions
-pub record HasRegionList (store : List ℕ) : Type 0 where
-  pub format : numeral (take 2 store) ≡ 1
-  pub list : HasTarget store 2
 
 -- the store has its list of regions and all offsets of its header, that of the subtable points into it, and the inner
 -- index has the 16 bits of one

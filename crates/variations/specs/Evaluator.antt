@@ -40,7 +40,36 @@ ParsesSetting text (Err (Axis fault)) = (value_start text < length text) × IsCh
 ParsesSetting text (Err (Value fault)) = (value_start text < length text) × IsAcceptable (axis_part text)
     × ParsesFixedPoint w32 16 fixed_bits (value_part text) (Err fault)
 
--- ---- axes (OpenType, fvar: "VariationAxisRecord")
+-- ---- axes (OpenType, fvar: majorVersion at 0, axesArrayOffset at 4, axisCount at 8, axisSize at 10, a header of 16
+-- bytes, and "VariationAxisRecord", of 20)
+
+abbrev pub fvar_version : List ℕ → ℕ
+fvar_version fvar = numeral (take 2 fvar)
+
+abbrev pub fvar_axis_count : List ℕ → ℕ
+fvar_axis_count fvar = numeral (take 2 (drop 8 fvar))
+
+abbrev pub fvar_axis_size : List ℕ → ℕ
+fvar_axis_size fvar = numeral (take 2 (drop 10 fvar))
+
+-- a table of major version 1, with the whole header, and records that are long enough
+pub record IsFvar (fvar : List ℕ) : Type 0 where
+  pub version : fvar_version fvar ≡ 1
+  pub header : 16 ≤ length fvar
+  pub size : 20 ≤ fvar_axis_size fvar
+
+-- where the record of an axis is
+abbrev pub axis_offset : List ℕ → ℕ → ℕ
+axis_offset fvar axis = numeral (take 2 (drop 4 fvar)) + fvar_axis_size fvar * axis
+
+-- the table has the axis, and does not end before its record does
+pub record HasAxis (fvar : List ℕ) (axis : ℕ) : Type 0 where
+  pub within : axis < fvar_axis_count fvar
+  pub bytes : axis_offset fvar axis + 20 ≤ length fvar
+
+-- the bytes from its record on
+abbrev pub axis_bytes : List ℕ → ℕ → List ℕ
+axis_bytes fvar axis = drop (axis_offset fvar axis) fvar
 
 -- an axis that values can be normalized by: the default is within the range, and 16.16 holds the length of the range
 pub record HasRange (min default max : ℤ) : Type 0 where
@@ -116,8 +145,16 @@ IsMapped coordinate map result =
     (AreBelow map (mapping_count map) (fixed_bits coordinate) × (result ≡ coordinate))
     ⊎ ((end : ℕ) × IsSegmentEnd (fixed_bits coordinate) map end × IsMappedIn coordinate map end result)
 
--- ---- where the segment map of an axis is (OpenType, avar: axisCount at 6, and from 8 on for each axis
--- positionMapCount and as many mappings)
+-- ---- where the segment map of an axis is (OpenType, avar: majorVersion at 0, axisCount at 6, and from 8 on for each
+-- axis positionMapCount and as many mappings)
+
+abbrev pub avar_version : List ℕ → ℕ
+avar_version avar = numeral (take 2 avar)
+
+-- a table of major version 1, with the whole header
+pub record IsAvar (avar : List ℕ) : Type 0 where
+  pub version : avar_version avar ≡ 1
+  pub header : 8 ≤ length avar
 
 abbrev pub avar_axis_count : List ℕ → ℕ
 avar_axis_count avar = numeral (take 2 (drop 6 avar))

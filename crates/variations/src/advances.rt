@@ -1,16 +1,15 @@
 //! Advances by a table `HVAR`, from its bytes to a varied advance.
 
-ghost use Rattle.std.specs.Prelude.{◌≡◌, ◌↔◌, ◌⊎◌, ◌<◌, ◌≤◌, ◌+◌, ◌*◌, ◌/◌, ◌%◌, ◌^◌, pos, Some};
-ghost use Rattle.std.specs.Prelude.{IsSome, IfSome, MatchOption, length, take, drop};
-ghost use Rattle.font_types.specs.{FWord.ufword_number, GlyphId.glyph16_number};
+ghost use Rattle.std.specs.Prelude.{◌≡◌, ◌↔◌, ◌<◌, ◌≤◌, ◌+◌, ◌*◌, ◌/◌, ◌%◌, ◌^◌};
+ghost use Rattle.std.specs.Prelude.{IsSome, IfSome, length, take, drop};
+ghost use Rattle.font_types.specs.GlyphId.{glyph16_number};
 ghost use Rattle.variations.specs.Advances.{HasTarget, target_of, HasGlyphSet, outer_index};
 ghost use Rattle.variations.specs.Advances.{inner_index, HasData, regions_of, subtable_of};
-ghost use Rattle.variations.specs.Variations.{IsNoVariation, HasNoVaried, HasSet, IsVaried};
-ghost use Rattle.variations.specs.Variations.{IsNearAdvance};
+ghost use Rattle.variations.specs.Advances.{IsHvar};
 
-use crate::delta_sets::vary_advance;
-use crate::maps::{DeltaSetIndex, is_no_variation, read_delta_set_index};
-use font_types::{F2Dot14, GlyphId16, Scalar, UfWord};
+use crate::instances::ItemVariationStore;
+use crate::maps::{DeltaSetIndex, read_delta_set_index};
+use font_types::{GlyphId16, Scalar};
 
 // Returns the bytes from where an offset points, or `None` if it is null or points past the end.
 pub(crate) fn at_offset(table: &[u8], place: usize) -> Option<&[u8]>
@@ -37,24 +36,49 @@ fn glyph_set(hvar: &[u8], glyph: u16) -> Option<DeltaSetIndex>
     read_delta_set_index(at_offset(hvar, 8)?, inner)
 }
 
-/// Finds the item variation store of a table `HVAR`, and the indices of the delta set of a glyph's
-/// advance, which the store may not have. Returns `None` if the table is too short, the offset of
-/// the store is null, an offset points past the end, or the map of glyphs has no entry.
-///
-/// The version of the table is not read: it has to be 1.
-#[must_use]
-pub fn store_and_set(hvar: &[u8], glyph: GlyphId16) -> Option<(&[u8], DeltaSetIndex)>
-    ensures variant { IsSome result
-        ↔ (HasTarget hvar.now 4 × HasGlyphSet hvar.now (glyph16_number glyph)) }
-    ensures store { IfSome result (λ found. found.0.now ≡ target_of hvar.now 4) }
-    ensures outer { IfSome result (λ found.
-        found.1.outer ≡ outer_index hvar.now (glyph16_number glyph)) }
-    ensures inner { IfSome result (λ found.
-        found.1.inner ≡ inner_index hvar.now (glyph16_number glyph)) }
-{
-    let store = at_offset(hvar, 4)?;
-    let set = glyph_set(hvar, glyph.to_u16())?;
-    Some((store, set))
+/// A table `HVAR` of major version 1.
+#[derive(Clone, Copy, Debug)]
+pub struct Hvar<'a> {
+    bytes: &'a [u8],
+    store: ItemVariationStore<'a>,
+    ghost is_store: { store.bytes.now ≡ target_of bytes.now 4 },
+}
+
+impl<'a> Hvar<'a> {
+    /// Returns the table that begins at these bytes, or `None` if its major version is not 1, it
+    /// ends before its header does, or it has no item variation store of format 1.
+    #[must_use]
+    pub fn new(bytes: &'a [u8]) -> Option<Hvar<'a>>
+        ensures variant { IsSome result ↔ IsHvar bytes.now }
+        ensures bytes { IfSome result (λ hvar. hvar.bytes.now ≡ bytes.now) }
+    {
+        if u16::read_at(bytes, 0)? != 1 || bytes.len() < 20 {
+            return None;
+        }
+        let store = ItemVariationStore::new(at_offset(bytes, 4)?)?;
+        Some(Hvar { bytes, store })
+    }
+
+    /// Returns the item variation store.
+    #[must_use]
+    pub fn store(&self) -> ItemVariationStore<'a>
+        ensures { result.bytes.now ≡ target_of self.now.bytes.now 4 }
+    {
+        self.store
+    }
+
+    /// Returns the delta set of a glyph's advance, which the store may not have, or `None` if the
+    /// map of glyphs is not there or has no entry.
+    #[must_use]
+    pub fn advance_set(&self, glyph: GlyphId16) -> Option<DeltaSetIndex>
+        ensures variant { IsSome result ↔ HasGlyphSet self.now.bytes.now (glyph16_number glyph) }
+        ensures outer { IfSome result (λ set.
+            set.outer ≡ outer_index self.now.bytes.now (glyph16_number glyph)) }
+        ensures inner { IfSome result (λ set.
+            set.inner ≡ inner_index self.now.bytes.now (glyph16_number glyph)) }
+    {
+        glyph_set(self.bytes, glyph.to_u16())
+    }
 }
 
 // Finds the list of regions, the subtable of a delta set, and the index of the set in it.
@@ -71,38 +95,4 @@ pub(crate) fn data_of(store: &[u8], set: DeltaSetIndex) -> Option<(&[u8], &[u8],
     let regions = at_offset(store, 2)?;
     let subtable = at_offset(store, 8 + 4 * set.outer as usize)?;
     Some((regions, subtable, u16::try_from(set.inner).ok()?))
-}
-
-/// Varies an advance by a delta set of an item variation store at these coordinates, and rounds it
-/// once, half up, as [`vary_advance`] does. The set without variation data, 0xFFFF and 0xFFFF, does
-/// not change the advance. Returns `None` if the store does not have the set, or the result is out
-/// of range.
-///
-/// The time is that of all axes times all columns of the set, as of
-/// [`set_sum`](crate::delta_sets::set_sum): for an untrusted font, and for many glyphs, use
-/// [`StoreInstance`](crate::instances::StoreInstance).
-#[must_use]
-pub fn varied_by(
-    advance: UfWord,
-    store: &[u8],
-    set: DeltaSetIndex,
-    coordinates: &[F2Dot14],
-) -> Option<UfWord>
-    ensures unvaried { IsNoVariation set.outer set.inner → result ≡ Some advance }
-    ensures value { ¬ IsNoVariation set.outer set.inner → MatchOption result
-        ((¬ HasData store.now set.outer set.inner) ⊎ HasNoVaried (regions_of store.now)
-        (subtable_of store.now set.outer) coordinates.now set.inner (ufword_number advance))
-        (λ varied. HasData store.now set.outer set.inner
-        × HasSet (regions_of store.now) (subtable_of store.now set.outer) set.inner
-        × IsVaried (regions_of store.now) (subtable_of store.now set.outer) coordinates.now
-        set.inner (ufword_number advance) (pos (ufword_number varied))) }
-    ensures near { ¬ IsNoVariation set.outer set.inner → IfSome result (λ varied.
-        IsNearAdvance (regions_of store.now) (subtable_of store.now set.outer) coordinates.now
-        set.inner (ufword_number advance) (pos (ufword_number varied))) }
-{
-    if is_no_variation(set) {
-        return Some(advance);
-    }
-    let (regions, subtable, inner) = data_of(store, set)?;
-    vary_advance(advance, regions, subtable, inner, coordinates)
 }

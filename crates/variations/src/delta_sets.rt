@@ -1,40 +1,18 @@
-//! Delta sets of item variation data: their deltas, their sums, and advances that they move.
+//! Delta sets of item variation data: their rows, and the deltas of their columns.
 
-ghost use Rattle.std.specs.Prelude.{◌≡◌, ◌↔◌, ◌⊎◌, ◌<◌, ◌≤◌, ◌+◌, ◌^◌, pos, ◌≤ℤ◌, unsigned_abs};
-ghost use Rattle.std.specs.Prelude.{IsSome, IfSome, MatchOption, length, take, drop};
+ghost use Rattle.std.specs.Prelude.{◌≡◌, ◌↔◌, ◌⊎◌, ◌<◌, ◌≤◌, ◌+◌, ◌^◌, unsigned_abs};
+ghost use Rattle.std.specs.Prelude.{IsSome, IfSome, length, take, drop};
 ghost use Rattle.font_types.specs.Bytes.{signed_numeral};
-ghost use Rattle.font_types.specs.Fixed;
-ghost use Rattle.font_types.specs.{Fixed.fixed_bits, F48Dot16.f48dot16_bits, FWord.ufword_number};
 ghost use Rattle.variations.specs.Variations.{narrow_width, delta_width, delta_place, HasDelta};
 ghost use Rattle.variations.specs.Variations.{HasRow, row_bytes, column_place, word_delta_count};
-ghost use Rattle.variations.specs.Variations.{region_index_count, region_index, delta_of, HasTerm};
-ghost use Rattle.variations.specs.Variations.{IsTerm, IsSetSum, HasSet, IsVaried, HasNoVaried};
-ghost use Rattle.variations.specs.Variations.{IsNearSetSum, IsNearAdvance};
+ghost use Rattle.variations.specs.Variations.{region_index_count, region_index, delta_of};
 
-use crate::regions::region_scalar;
-use font_types::{F2Dot14, F48Dot16, Fixed, Scalar, UfWord};
+use font_types::Scalar;
 
 // The parts of `wordDeltaCount`.
 const LONG_WORDS: u16 = 0x8000;
 
 const WORD_DELTA_COUNT_MASK: u16 = 0x7FFF;
-
-/// Reads the delta of a column in a set, or returns `None` if the subtable does not have it. The
-/// first columns are wide, and all are twice as wide in a subtable of long words.
-#[must_use]
-#[tactic(auto, using(font_types::proofs::Callers::calls, crate::proofs::Stores::row_rules))]
-pub fn read_delta(subtable: &[u8], set: u16, column: u16) -> Option<i32>
-    ensures variant { IsSome result ↔ HasDelta subtable.now set column }
-    ensures value { IfSome result (λ delta. delta ≡ delta_of subtable.now set column) }
-    ensures size { IfSome result (λ delta. unsigned_abs delta ≤ 2 ^ 31) }
-{
-    let (words, count) = (u16::read_at(subtable, 2)?, u16::read_at(subtable, 4)?);
-    if column >= count {
-        return None;
-    }
-    let row = row_of(subtable, set)?;
-    Some(column_in(subtable, row, words, set, column)?.1)
-}
 
 // Returns the size of a narrow delta, by the count of wide columns.
 fn narrow_width_of(words: u16) -> usize
@@ -54,6 +32,7 @@ fn offset_of(words: u16, count: u16, set: u16) -> u64
 }
 
 // Returns the bytes of a subtable from the first delta of a set on.
+#[inline]
 pub(crate) fn row_of(subtable: &[u8], set: u16) -> Option<&[u8]>
     ensures variant { IsSome result ↔ HasRow subtable.now set }
     ensures value { IfSome result (λ row. row.now ≡ row_bytes subtable.now set) }
@@ -87,6 +66,7 @@ fn delta_in(row: &[u8], words: u16, column: u16) -> Option<i32>
 
 // Reads the region and the delta of a column, by the row of its set. `_set` is for the contract.
 #[tactic(auto, using(font_types::proofs::Callers::calls, crate::proofs::Stores::row_rules))]
+#[inline]
 pub(crate) fn column_in(
     subtable: &[u8],
     row: &[u8],
@@ -120,112 +100,4 @@ fn read_signed(bytes: &[u8], offset: usize, width: usize) -> Option<i32>
         2 => Some(i32::from(i16::read_at(bytes, offset)?)),
         _ => i32::read_at(bytes, offset),
     }
-}
-
-// ---- sums of delta sets
-
-/// Returns the scalar of a column's region and the delta of the column in a set, or `None` if the
-/// subtable does not have the delta or the list the region.
-#[must_use]
-pub fn column_term(
-    regions: &[u8],
-    subtable: &[u8],
-    set: u16,
-    column: u16,
-    coordinates: &[F2Dot14],
-) -> Option<(Fixed, i32)>
-    ensures variant { IsSome result ↔ HasTerm regions.now subtable.now set column }
-    ensures value { IfSome result (λ term.
-        IsTerm regions.now subtable.now coordinates.now set column term) }
-    ensures low { IfSome result (λ term. pos 0 ≤ℤ fixed_bits term.0) }
-    ensures high { IfSome result (λ term. fixed_bits term.0 ≤ℤ fixed_bits Fixed.ONE) }
-    ensures size { IfSome result (λ term. unsigned_abs term.1 ≤ 2 ^ 31) }
-{
-    let delta = read_delta(subtable, set, column)?;
-    let region = u16::read_at(subtable, 6 + 2 * usize::from(column))?;
-    Some((region_scalar(regions, region, coordinates)?, delta))
-}
-
-// Returns `column_term`, by the row of the set.
-fn term_in(
-    regions: &[u8],
-    subtable: &[u8],
-    row: &[u8],
-    words: u16,
-    set: u16,
-    column: u16,
-    coordinates: &[F2Dot14],
-) -> Option<(Fixed, i32)>
-    requires set { HasRow subtable.now set }
-    requires row { row.now ≡ row_bytes subtable.now set }
-    requires words { words ≡ word_delta_count subtable.now }
-    requires column { column < region_index_count subtable.now }
-    ensures variant { IsSome result ↔ HasTerm regions.now subtable.now set column }
-    ensures value { IfSome result (λ term.
-        IsTerm regions.now subtable.now coordinates.now set column term) }
-    ensures low { IfSome result (λ term. pos 0 ≤ℤ fixed_bits term.0) }
-    ensures high { IfSome result (λ term. fixed_bits term.0 ≤ℤ fixed_bits Fixed.ONE) }
-    ensures size { IfSome result (λ term. unsigned_abs term.1 ≤ 2 ^ 31) }
-{
-    let (region, delta) = column_in(subtable, row, words, set, column)?;
-    Some((region_scalar(regions, region, coordinates)?, delta))
-}
-
-/// Returns the exact sum of the deltas of a set, each times the scalar of its region, or `None` if
-/// the subtable does not have the set or the list not all its regions.
-///
-/// The time is that of all axes times all columns of the set, whatever the number of coordinates,
-/// and an `HVAR` of 400 kB can have 33,000 axes and 65,000 columns. For an untrusted font, and for
-/// many glyphs, use [`StoreInstance`](crate::instances::StoreInstance).
-#[must_use]
-#[tactic(auto, using(font_types::proofs::Callers::calls, crate::proofs::Stores::sum_rules))]
-pub fn set_sum(
-    regions: &[u8],
-    subtable: &[u8],
-    set: u16,
-    coordinates: &[F2Dot14],
-) -> Option<F48Dot16>
-    ensures variant { IsSome result ↔ HasSet regions.now subtable.now set }
-    ensures value { IfSome result (λ sum.
-        IsSetSum regions.now subtable.now coordinates.now set (f48dot16_bits sum)) }
-    ensures near { IfSome result (λ sum.
-        IsNearSetSum regions.now subtable.now coordinates.now set (f48dot16_bits sum)) }
-{
-    let (words, count) = (u16::read_at(subtable, 2)?, u16::read_at(subtable, 4)?);
-    if set >= u16::read_at(subtable, 0)? {
-        return None;
-    }
-    if count == 0 {
-        return Some(F48Dot16::ZERO);
-    }
-    let row = row_of(subtable, set)?;
-    let mut sum = F48Dot16::ZERO;
-    for column in 0..count {
-        let (scalar, delta) = term_in(regions, subtable, row, words, set, column, coordinates)?;
-        sum += scalar.mul_i32(delta);
-    }
-    Some(sum)
-}
-
-/// Adds the sum of a delta set at these coordinates to an advance and rounds once, half up, or
-/// returns `None` if the set is not there or the result is out of range.
-///
-/// The time is that of all axes times all columns of the set, as of [`set_sum`]: for an untrusted
-/// font, and for many glyphs, use [`StoreInstance`](crate::instances::StoreInstance).
-#[must_use]
-pub fn vary_advance(
-    advance: UfWord,
-    regions: &[u8],
-    subtable: &[u8],
-    set: u16,
-    coordinates: &[F2Dot14],
-) -> Option<UfWord>
-    ensures value { MatchOption result
-        (HasNoVaried regions.now subtable.now coordinates.now set (ufword_number advance))
-        (λ varied. HasSet regions.now subtable.now set × IsVaried regions.now subtable.now
-        coordinates.now set (ufword_number advance) (pos (ufword_number varied))) }
-    ensures near { IfSome result (λ varied. IsNearAdvance regions.now subtable.now
-        coordinates.now set (ufword_number advance) (pos (ufword_number varied))) }
-{
-    advance.checked_add_delta(set_sum(regions, subtable, set, coordinates)?)
 }

@@ -1,27 +1,32 @@
 //! Coordinates of an instance: settings, `fvar` and `avar`.
 
 ghost use Rattle.std.specs.Prelude.{◌≡◌, ◌≢◌, ◌↔◌, pos, neg_ℤ, ◌≤ℤ◌, ◌<ℤ◌, ◌+ℤ◌, ◌-ℤ◌, ◌*ℤ◌, ◌≤◌};
-ghost use Rattle.std.specs.Prelude.{◌+◌, ◌*◌, IsTrue, IsSome, IfSome, MatchOption, length, take};
-ghost use Rattle.std.specs.Prelude.{drop};
+ghost use Rattle.std.specs.Prelude.{◌+◌, ◌-◌, ◌*◌, IsTrue, IsSome, IfSome, MatchOption, length};
+ghost use Rattle.std.specs.Prelude.{take, drop, [], ⊤};
+ghost use Rattle.std.specs.Iterator.{at_most};
 ghost use Rattle.font_types.specs.Bytes.{numeral, signed_numeral};
 ghost use Rattle.font_types.specs.{Wrap.FitsBits, Operations.IsQuotient};
 ghost use Rattle.font_types.specs.Fixed;
 ghost use Rattle.font_types.specs.Fixed.{fixed_bits};
 ghost use Rattle.font_types.specs.F2Dot14;
 ghost use Rattle.font_types.specs.{F2Dot14.f2dot14_bits, NameId.name_number, Tag.tag_bytes};
-ghost use Rattle.variations.specs.Evaluator.{value_start, AreParts, ParsesSetting, IsLerp};
+ghost use Rattle.variations.specs.Evaluator.{value_start, AreParts, IsLerp};
 ghost use Rattle.variations.specs.Evaluator.{AreBelow, HasRange, mapping_at, mapping_count};
 ghost use Rattle.variations.specs.Evaluator.{HasSegmentMap, segment_map_bytes, IsSegmentEnd};
 ghost use Rattle.variations.specs.Evaluator.{IsMappedIn, IsMapped, IsFinal, IsStoredCoordinate};
-ghost use Rattle.variations.specs.Evaluator.{map_offset};
+ghost use Rattle.variations.specs.Evaluator.{map_offset, IsAvar, avar_axis_count, IsFvar};
+ghost use Rattle.variations.specs.Evaluator.{fvar_axis_count, HasAxis, axis_bytes};
 
 use font_types::{DecimalFault, F2Dot14, Fixed, InvalidTag, NameId, Scalar, Tag};
+use std::alloc::AllocError;
+use std::iter::FusedIterator;
+use std::str::FromStr;
 use thiserror::Error;
 
 // ---- settings
 
 /// A user's value on an axis.
-#[derive(Clone, Copy, PartialEq, Debug)]
+#[derive(Clone, Copy, PartialEq, Eq, Hash, Debug)]
 pub struct Setting {
     /// The tag of the axis.
     pub axis: Tag,
@@ -30,7 +35,7 @@ pub struct Setting {
 }
 
 /// Why a text is not a setting.
-#[derive(Clone, PartialEq, Debug, Drop, Error)]
+#[derive(Clone, PartialEq, Eq, Debug, Drop, Error)]
 pub enum SettingError {
     /// It has no `=`.
     #[error("no `=`")]
@@ -54,23 +59,27 @@ fn split_setting(text: &str) -> Option<(&str, &str)>
 
 /// Parses a setting such as `wght=650` or `wdth=87.5`: the tag of an axis, and a decimal.
 ///
-/// # Errors
-///
-/// Returns the error of the first wrong part: `NoValue` without a `=`, `Axis` if the text before it
+/// The error is that of the first wrong part: `NoValue` without a `=`, `Axis` if the text before it
 /// is not a tag, `Value` if the text after it is not a decimal in range.
-pub fn read_setting(text: &str) -> Result<Setting, SettingError>
-    ensures { ParsesSetting text.now result }
-{
-    let (axis, value) = split_setting(text).ok_or(SettingError::NoValue)?;
-    let axis = Tag::new_checked(axis.as_bytes()).map_err(SettingError::Axis)?;
-    let value = Fixed::from_decimal(value).map_err(SettingError::Value)?;
-    Ok(Setting { axis, value })
+impl FromStr for Setting {
+    ghost use Rattle.variations.specs.Evaluator.{ParsesSetting};
+
+    type Err = SettingError;
+
+    ghost from_str_gives = { ParsesSetting };
+
+    fn from_str(text: &str) -> Result<Setting, SettingError> {
+        let (axis, value) = split_setting(text).ok_or(SettingError::NoValue)?;
+        let axis = Tag::new_checked(axis.as_bytes()).map_err(SettingError::Axis)?;
+        let value = Fixed::from_decimal(value).map_err(SettingError::Value)?;
+        Ok(Setting { axis, value })
+    }
 }
 
 // ---- `fvar`: normalized coordinates
 
 /// A variation axis, a record of `fvar`.
-#[derive(Clone, Copy)]
+#[derive(Clone, Copy, PartialEq, Eq, Hash, Debug)]
 pub struct VariationAxisRecord {
     /// The tag of the axis, as `wght`.
     pub axis_tag: Tag,
@@ -86,9 +95,63 @@ pub struct VariationAxisRecord {
     pub axis_name_id: NameId,
 }
 
-/// Reads an axis of `fvar`, or returns `None` if there are fewer than 20 bytes.
-#[must_use]
-pub fn read_axis(bytes: &[u8]) -> Option<VariationAxisRecord>
+/// A table `fvar` of major version 1.
+#[derive(Clone, Copy, Debug)]
+pub struct Fvar<'a> {
+    bytes: &'a [u8],
+    ghost header: { IsFvar bytes.now },
+}
+
+impl<'a> Fvar<'a> {
+    /// Returns the table that begins at these bytes, or `None` if its major version is not 1, it
+    /// ends before its header does, or its records are shorter than an axis.
+    #[must_use]
+    pub fn new(bytes: &'a [u8]) -> Option<Fvar<'a>>
+        ensures variant { IsSome result ↔ IsFvar bytes.now }
+        ensures bytes { IfSome result (λ fvar. fvar.bytes.now ≡ bytes.now) }
+    {
+        if u16::read_at(bytes, 0)? != 1 || bytes.len() < 16 || u16::read_at(bytes, 10)? < 20 {
+            return None;
+        }
+        Some(Fvar { bytes })
+    }
+
+    /// Returns the number of axes.
+    #[must_use]
+    pub fn axis_count(&self) -> u16
+        ensures { result ≡ fvar_axis_count self.now.bytes.now }
+    {
+        u16::read_at(self.bytes, 8).unwrap_or(0)
+    }
+
+    /// Returns an axis, or `None` if the table has no such axis, or ends before its record does.
+    #[must_use]
+    pub fn axis(&self, index: u16) -> Option<VariationAxisRecord>
+        ensures variant { IsSome result ↔ HasAxis self.now.bytes.now index }
+        ensures axis_tag { IfSome result (λ axis.
+            tag_bytes axis.axis_tag ≡ take 4 (axis_bytes self.now.bytes.now index)) }
+        ensures min_value { IfSome result (λ axis. fixed_bits axis.min_value
+            ≡ signed_numeral 4 (take 4 (drop 4 (axis_bytes self.now.bytes.now index)))) }
+        ensures default_value { IfSome result (λ axis. fixed_bits axis.default_value
+            ≡ signed_numeral 4 (take 4 (drop 8 (axis_bytes self.now.bytes.now index)))) }
+        ensures max_value { IfSome result (λ axis. fixed_bits axis.max_value
+            ≡ signed_numeral 4 (take 4 (drop 12 (axis_bytes self.now.bytes.now index)))) }
+        ensures flags { IfSome result (λ axis. axis.flags
+            ≡ numeral (take 2 (drop 16 (axis_bytes self.now.bytes.now index)))) }
+        ensures axis_name_id { IfSome result (λ axis. name_number axis.axis_name_id
+            ≡ numeral (take 2 (drop 18 (axis_bytes self.now.bytes.now index)))) }
+    {
+        if index >= self.axis_count() {
+            return None;
+        }
+        let start = usize::from(u16::read_at(self.bytes, 4)?);
+        let size = usize::from(u16::read_at(self.bytes, 10)?);
+        read_axis(self.bytes.get(start + size * usize::from(index)..)?)
+    }
+}
+
+// Reads an axis of `fvar`, or returns `None` if there are fewer than 20 bytes.
+fn read_axis(bytes: &[u8]) -> Option<VariationAxisRecord>
     ensures variant { IsSome result ↔ (20 ≤ length bytes.now) }
     ensures axis_tag { IfSome result (λ axis. tag_bytes axis.axis_tag ≡ take 4 bytes.now) }
     ensures min_value { IfSome result (λ axis.
@@ -161,46 +224,48 @@ fn has_range(axis: VariationAxisRecord) -> bool
         && axis.max_value.checked_sub(axis.min_value).is_some()
 }
 
-/// Normalizes a value of an axis to -1..1: clamps it to the axis, and divides its distance from the
-/// default by that of the end on its side. Returns `None` unless `min <= default <= max` and 16.16
-/// holds `max - min`.
-#[must_use]
-pub fn normalize(value: Fixed, axis: VariationAxisRecord) -> Option<Fixed>
-    ensures variant { IsSome result ↔ HasRange (fixed_bits axis.min_value)
-        (fixed_bits axis.default_value) (fixed_bits axis.max_value) }
-    ensures default { IfSome result (λ coordinate. fixed_bits value ≡ fixed_bits axis.default_value
-        → fixed_bits coordinate ≡ pos 0) }
-    ensures above { IfSome result (λ coordinate. fixed_bits axis.default_value <ℤ fixed_bits value
-        → fixed_bits value ≤ℤ fixed_bits axis.max_value
-        → IsQuotient 32 16 (fixed_bits value -ℤ fixed_bits axis.default_value)
-        (fixed_bits axis.max_value -ℤ fixed_bits axis.default_value) (fixed_bits coordinate)) }
-    ensures below { IfSome result (λ coordinate. fixed_bits value <ℤ fixed_bits axis.default_value
-        → fixed_bits axis.min_value ≤ℤ fixed_bits value
-        → IsQuotient 32 16 (fixed_bits axis.default_value -ℤ fixed_bits value)
-        (fixed_bits axis.default_value -ℤ fixed_bits axis.min_value)
-        (neg_ℤ (fixed_bits coordinate))) }
-    ensures no_rise { IfSome result (λ coordinate.
-        fixed_bits axis.max_value ≡ fixed_bits axis.default_value
-        → fixed_bits axis.default_value ≤ℤ fixed_bits value → fixed_bits coordinate ≡ pos 0) }
-    ensures no_fall { IfSome result (λ coordinate.
-        fixed_bits axis.min_value ≡ fixed_bits axis.default_value
-        → fixed_bits value ≤ℤ fixed_bits axis.default_value → fixed_bits coordinate ≡ pos 0) }
-    ensures max { IfSome result (λ coordinate.
-        fixed_bits axis.default_value <ℤ fixed_bits axis.max_value
-        → fixed_bits axis.max_value ≤ℤ fixed_bits value
-        → fixed_bits coordinate ≡ fixed_bits Fixed.ONE) }
-    ensures min { IfSome result (λ coordinate.
-        fixed_bits axis.min_value <ℤ fixed_bits axis.default_value
-        → fixed_bits value ≤ℤ fixed_bits axis.min_value
-        → fixed_bits coordinate ≡ fixed_bits Fixed.NEG_ONE) }
-    ensures low { IfSome result (λ coordinate. fixed_bits Fixed.NEG_ONE ≤ℤ fixed_bits coordinate) }
-    ensures high { IfSome result (λ coordinate. fixed_bits coordinate ≤ℤ fixed_bits Fixed.ONE) }
-{
-    if has_range(axis) {
-        let clamped = clamp(value, axis.min_value, axis.max_value);
-        Some(normalize_clamped(clamped, axis))
-    } else {
-        None
+impl VariationAxisRecord {
+    /// Normalizes a value to -1..1: clamps it to the axis, and divides its distance from the default
+    /// by that of the end on its side. Returns `None` unless `min <= default <= max` and 16.16
+    /// holds `max - min`.
+    #[must_use]
+    pub fn normalize(&self, value: Fixed) -> Option<Fixed>
+        ensures variant { IsSome result ↔ HasRange (fixed_bits self.now.min_value)
+            (fixed_bits self.now.default_value) (fixed_bits self.now.max_value) }
+        ensures default { IfSome result (λ coordinate. fixed_bits value ≡ fixed_bits self.now.default_value
+            → fixed_bits coordinate ≡ pos 0) }
+        ensures above { IfSome result (λ coordinate. fixed_bits self.now.default_value <ℤ fixed_bits value
+            → fixed_bits value ≤ℤ fixed_bits self.now.max_value
+            → IsQuotient 32 16 (fixed_bits value -ℤ fixed_bits self.now.default_value)
+            (fixed_bits self.now.max_value -ℤ fixed_bits self.now.default_value) (fixed_bits coordinate)) }
+        ensures below { IfSome result (λ coordinate. fixed_bits value <ℤ fixed_bits self.now.default_value
+            → fixed_bits self.now.min_value ≤ℤ fixed_bits value
+            → IsQuotient 32 16 (fixed_bits self.now.default_value -ℤ fixed_bits value)
+            (fixed_bits self.now.default_value -ℤ fixed_bits self.now.min_value)
+            (neg_ℤ (fixed_bits coordinate))) }
+        ensures no_rise { IfSome result (λ coordinate.
+            fixed_bits self.now.max_value ≡ fixed_bits self.now.default_value
+            → fixed_bits self.now.default_value ≤ℤ fixed_bits value → fixed_bits coordinate ≡ pos 0) }
+        ensures no_fall { IfSome result (λ coordinate.
+            fixed_bits self.now.min_value ≡ fixed_bits self.now.default_value
+            → fixed_bits value ≤ℤ fixed_bits self.now.default_value → fixed_bits coordinate ≡ pos 0) }
+        ensures max { IfSome result (λ coordinate.
+            fixed_bits self.now.default_value <ℤ fixed_bits self.now.max_value
+            → fixed_bits self.now.max_value ≤ℤ fixed_bits value
+            → fixed_bits coordinate ≡ fixed_bits Fixed.ONE) }
+        ensures min { IfSome result (λ coordinate.
+            fixed_bits self.now.min_value <ℤ fixed_bits self.now.default_value
+            → fixed_bits value ≤ℤ fixed_bits self.now.min_value
+            → fixed_bits coordinate ≡ fixed_bits Fixed.NEG_ONE) }
+        ensures low { IfSome result (λ coordinate. fixed_bits Fixed.NEG_ONE ≤ℤ fixed_bits coordinate) }
+        ensures high { IfSome result (λ coordinate. fixed_bits coordinate ≤ℤ fixed_bits Fixed.ONE) }
+    {
+        if has_range(*self) {
+            let clamped = clamp(value, self.min_value, self.max_value);
+            Some(normalize_clamped(clamped, *self))
+        } else {
+            None
+        }
     }
 }
 
@@ -237,9 +302,8 @@ fn normalize_clamped(value: Fixed, axis: VariationAxisRecord) -> Fixed
     }
 }
 
-/// Clamps a coordinate to -1..1, and rounds it half up to 2.14, as `avar` and tuples store it.
-#[must_use]
-pub fn to_stored(coordinate: Fixed) -> F2Dot14
+// Clamps a coordinate to -1..1, and rounds it half up to 2.14, as `avar` and tuples store it.
+fn to_stored(coordinate: Fixed) -> F2Dot14
     ensures value { IsStoredCoordinate coordinate result }
     ensures low { f2dot14_bits F2Dot14.NEG_ONE ≤ℤ f2dot14_bits result }
     ensures high { f2dot14_bits result ≤ℤ f2dot14_bits F2Dot14.ONE }
@@ -249,14 +313,69 @@ pub fn to_stored(coordinate: Fixed) -> F2Dot14
 
 // ---- `avar`: segment maps
 
-/// Finds the mappings of an axis in a table `avar`, each of four bytes. Returns `None` if the table
-/// has no such axis, or ends before the map of the axis does.
-///
-/// The maps of the axes before it are walked, so for all axes use [`SegmentMaps`]. The version of
-/// the table is not read: it has to be 1.
-#[must_use]
+/// A table `avar` of major version 1.
+#[derive(Clone, Copy, Debug)]
+pub struct Avar<'a> {
+    bytes: &'a [u8],
+    ghost header: { IsAvar bytes.now },
+}
+
+impl<'a> Avar<'a> {
+    /// Returns the table that begins at these bytes, or `None` if its major version is not 1, or it
+    /// ends before its header does.
+    #[must_use]
+    pub fn new(bytes: &'a [u8]) -> Option<Avar<'a>>
+        ensures variant { IsSome result ↔ IsAvar bytes.now }
+        ensures bytes { IfSome result (λ avar. avar.bytes.now ≡ bytes.now) }
+    {
+        if u16::read_at(bytes, 0)? != 1 || bytes.len() < 8 {
+            return None;
+        }
+        Some(Avar { bytes })
+    }
+
+    /// Returns the number of axes.
+    #[must_use]
+    pub fn axis_count(&self) -> u16
+        ensures { result ≡ avar_axis_count self.now.bytes.now }
+    {
+        u16::read_at(self.bytes, 6).unwrap_or(0)
+    }
+
+    /// Returns the segment map of an axis, or `None` if the table has no such axis, or ends before
+    /// the map does.
+    ///
+    /// The maps of the axes before it are walked, so for all axes use
+    /// [`segment_maps`](Avar::segment_maps).
+    #[must_use]
+    pub fn segment_map(&self, axis: u16) -> Option<SegmentMap<'a>>
+        ensures variant { IsSome result ↔ HasSegmentMap self.now.bytes.now axis }
+        ensures value { IfSome result (λ map.
+            map.mappings.now ≡ segment_map_bytes self.now.bytes.now axis) }
+    {
+        let mappings = find_mappings(self.bytes, axis)?;
+        Some(SegmentMap { mappings })
+    }
+
+    /// Returns the segment maps of the axes, in order, up to the first that the table does not
+    /// have. Each is found in the same time.
+    #[must_use]
+    #[tactic(auto, using(font_types::proofs::Callers::calls, crate::proofs::Segments::map_rules))]
+    pub fn segment_maps(&self) -> SegmentMaps<'a>
+        ensures avar { result.avar.now ≡ self.now.bytes.now }
+        ensures axis { result.axis ≡ 0 }
+    {
+        SegmentMaps {
+            avar: self.bytes,
+            axis: 0,
+            start: 8,
+        }
+    }
+}
+
+// Finds the mappings of an axis in a table `avar`, each of four bytes.
 #[tactic(auto, using(font_types::proofs::Callers::calls, crate::proofs::Segments::map_rules))]
-pub fn segment_map(avar: &[u8], axis: u16) -> Option<&[u8]>
+fn find_mappings(avar: &[u8], axis: u16) -> Option<&[u8]>
     ensures variant { IsSome result ↔ HasSegmentMap avar.now axis }
     ensures value { IfSome result (λ map. map.now ≡ segment_map_bytes avar.now axis) }
 {
@@ -271,9 +390,8 @@ pub fn segment_map(avar: &[u8], axis: u16) -> Option<&[u8]>
     avar.get(start + 2..)?.get(..4 * usize::from(count))
 }
 
-/// The segment maps of a table `avar`, one axis after another, each found in the same time. The
-/// version of the table is not read: it has to be 1.
-#[derive(Clone, Copy, Debug)]
+/// The segment maps of a table `avar`, from [`Avar::segment_maps`].
+#[derive(Debug, Drop)]
 pub struct SegmentMaps<'a> {
     avar: &'a [u8],
     axis: u16,
@@ -281,43 +399,84 @@ pub struct SegmentMaps<'a> {
     ghost there: { start ≡ map_offset avar.now axis },
 }
 
-impl<'a> SegmentMaps<'a> {
-    /// Starts before the first axis.
-    #[must_use]
-    #[tactic(auto, using(font_types::proofs::Callers::calls, crate::proofs::Segments::map_rules))]
-    pub fn new(avar: &'a [u8]) -> SegmentMaps<'a>
-        ensures avar { result.avar.now ≡ avar.now }
-        ensures axis { result.axis ≡ 0 }
-    {
-        SegmentMaps {
-            avar,
-            axis: 0,
-            start: 8,
-        }
-    }
+impl<'a> Iterator for SegmentMaps<'a> {
+    type Item = SegmentMap<'a>;
 
-    /// Returns the mappings of the next axis, as [`segment_map`] does. After a `None`, each further
-    /// call returns `None`.
+    ghost next_gives = { λ old result new. (new.avar.now ≡ old.avar.now)
+        × (IsSome result ↔ HasSegmentMap old.avar.now old.axis)
+        × IfSome result (λ map. map.mappings.now ≡ segment_map_bytes old.avar.now old.axis)
+        × MatchOption result (new.axis ≡ old.axis) (λ _. new.axis ≡ old.axis + 1) };
+
+    ghost remaining = { λ maps. at_most (avar_axis_count maps.avar.now - maps.axis) };
+
     #[tactic(auto, using(font_types::proofs::Callers::calls, crate::proofs::Segments::map_rules))]
-    pub fn next_map(&mut self) -> Option<&'a [u8]>
-        ensures variant { IsSome result ↔ HasSegmentMap self.old.avar.now self.old.axis }
-        ensures value { IfSome result (λ map.
-            map.now ≡ segment_map_bytes self.old.avar.now self.old.axis) }
-        ensures avar { self.new.avar.now ≡ self.old.avar.now }
-        ensures axis { MatchOption result (self.new.axis ≡ self.old.axis)
-            (λ _. self.new.axis ≡ self.old.axis + 1) }
-    {
+    fn next(&mut self) -> Option<SegmentMap<'a>> {
         if self.axis >= u16::read_at(self.avar, 6)? {
             return None;
         }
         let count = usize::from(u16::read_at(self.avar, self.start)?);
-        let map = self.avar.get(self.start + 2..)?.get(..4 * count)?;
+        let mappings = self.avar.get(self.start + 2..)?.get(..4 * count)?;
         *self = SegmentMaps {
             avar: self.avar,
             axis: self.axis + 1,
             start: self.start + 2 + 4 * count,
         };
-        Some(map)
+        Some(SegmentMap { mappings })
+    }
+}
+
+impl<'a> FusedIterator for SegmentMaps<'a> {}
+
+impl<'a> Clone for SegmentMaps<'a> {
+    ghost is_clone = { λ maps copy. (copy.avar.now ≡ maps.avar.now) × (copy.axis ≡ maps.axis) };
+
+    ghost is_infallible = { λ _. ⊤ };
+
+    fn clone(&self) -> Result<SegmentMaps<'a>, AllocError> {
+        Ok(SegmentMaps {
+            avar: self.avar,
+            axis: self.axis,
+            start: self.start,
+        })
+    }
+}
+
+/// The mappings of an axis, by which its coordinates change. A font without `avar` has none:
+/// `SegmentMap::default()`.
+#[derive(Clone, Copy, PartialEq, Eq, Hash, Debug)]
+pub struct SegmentMap<'a> {
+    mappings: &'a [u8],
+}
+
+/// No mappings.
+impl<'a> Default for SegmentMap<'a> {
+    ghost is_default = { λ map. map.mappings.now ≡ [] };
+
+    fn default() -> SegmentMap<'a> {
+        SegmentMap { mappings: &[] }
+    }
+}
+
+impl<'a> SegmentMap<'a> {
+    /// Maps a coordinate. One below or above all mappings does not change.
+    #[must_use]
+    pub fn map(&self, coordinate: Fixed) -> Fixed
+        ensures { IsMapped coordinate self.now.mappings.now result }
+    {
+        match segment_end(coordinate, self.mappings) {
+            Some(end) => map_in_segment(coordinate, self.mappings, end),
+            None => coordinate,
+        }
+    }
+
+    /// Maps a coordinate from [`normalize`](VariationAxisRecord::normalize), and then rounds it to 2.14.
+    #[must_use]
+    pub fn final_coordinate(&self, coordinate: Fixed) -> F2Dot14
+        ensures value { IsFinal coordinate self.now.mappings.now result }
+        ensures low { f2dot14_bits F2Dot14.NEG_ONE ≤ℤ f2dot14_bits result }
+        ensures high { f2dot14_bits result ≤ℤ f2dot14_bits F2Dot14.ONE }
+    {
+        to_stored(self.map(coordinate))
     }
 }
 
@@ -377,25 +536,4 @@ fn map_in_segment(coordinate: Fixed, map: &[u8], end: usize) -> Fixed
     } else {
         lerp(coordinate, read_mapping(map, end - 1), mapping)
     }
-}
-
-/// Maps a coordinate by the mappings of a segment map, the bytes that [`segment_map`] returns. A
-/// coordinate below or above all mappings does not change.
-#[must_use]
-pub fn map_coordinate(coordinate: Fixed, map: &[u8]) -> Fixed
-    ensures { IsMapped coordinate map.now result }
-{
-    match segment_end(coordinate, map) {
-        Some(end) => map_in_segment(coordinate, map, end),
-        None => coordinate,
-    }
-}
-
-/// Maps a coordinate from [`normalize`] by the mappings of a segment map, and then rounds it to
-/// 2.14. A font without `avar` has no mappings: `&[]`.
-#[must_use]
-pub fn final_coordinate(coordinate: Fixed, map: &[u8]) -> F2Dot14
-    ensures { IsFinal coordinate map.now result }
-{
-    to_stored(map_coordinate(coordinate, map))
 }

@@ -2,17 +2,25 @@
 //!
 //! - `evaluator`: a setting is parsed, normalized by its axis of `fvar`, mapped by `avar`, and
 //!   rounded to a coordinate in 2.14.
-//! - `maps`, `regions`, `delta_sets`: a glyph has a delta set, a region has a scalar at the
-//!   coordinates, and the sum of the deltas, each times its scalar, moves the advance.
-//! - `advances`: the same by a table `HVAR`, with the delta set of a glyph and its subtable found.
-//! - `instances`: a store at given coordinates, with the scalar of each region computed once.
+//! - `advances`, `maps`: in a table `HVAR` a glyph has a delta set.
+//! - `instances`: a store at given coordinates, with the scalar of each region computed once. The
+//!   sum of the deltas of a set, each times its scalar, moves an advance.
+//! - `regions`, `delta_sets`: where the regions and the deltas of a store are.
 #![tactic(auto, using(font_types::proofs::Callers::calls))]
 
-pub mod advances;
-pub mod delta_sets;
-pub mod evaluator;
-pub mod instances;
-pub mod maps;
-pub mod regions;
+mod advances;
+mod delta_sets;
+mod evaluator;
+mod instances;
+mod maps;
+mod regions;
 #[cfg(test)]
 mod tests;
+
+pub use advances::Hvar;
+pub use evaluator::{
+    Avar, Fvar, SegmentMap, SegmentMaps, Setting, SettingError, VariationAxisRecord,
+};
+pub use instances::{ItemVariationStore, StoreInstance};
+pub use maps::{DeltaSetIndex, DeltaSetIndexMap};
+pub use regions::RegionAxisCoordinates;

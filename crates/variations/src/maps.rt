@@ -4,11 +4,12 @@ ghost use Rattle.std.specs.Prelude.{◌≡◌, ◌↔◌, ◌<◌, ◌≤◌, �
 ghost use Rattle.std.specs.Prelude.{length, take, drop};
 ghost use Rattle.font_types.specs.Bytes.{numeral};
 ghost use Rattle.variations.specs.Variations.{HasEntry, entry_of, IsNoVariation, inner_bits};
+ghost use Rattle.variations.specs.Variations.{map_format};
 
 use font_types::{Scalar, Uint24};
 
 /// The indices of a delta set: of a subtable, and in it.
-#[derive(Clone, Copy, PartialEq, Debug)]
+#[derive(Clone, Copy, PartialEq, Eq, Hash, Debug)]
 pub struct DeltaSetIndex {
     /// The index of the subtable in the store.
     pub outer: u32,
@@ -17,6 +18,12 @@ pub struct DeltaSetIndex {
 }
 
 impl DeltaSetIndex {
+    /// The indices of an item without variation data.
+    pub const NO_VARIATION: DeltaSetIndex = DeltaSetIndex {
+        outer: 0xFFFF,
+        inner: 0xFFFF,
+    };
+
     /// Returns the indices that 32 bits hold, the outer one in the high half, as in `COLR`, `MVAR`
     /// and a `VariationIndex` table.
     ///
@@ -30,14 +37,47 @@ impl DeltaSetIndex {
     {
         split_entry(index, 16)
     }
+
+    /// Returns whether the indices are those of an item without variation data.
+    #[must_use]
+    pub fn is_no_variation(&self) -> bool
+        ensures { IsTrue result ↔ IsNoVariation self.now.outer self.now.inner }
+    {
+        self.outer == 0xFFFF && self.inner == 0xFFFF
+    }
 }
 
-/// Returns whether the indices are those of an item without variation data.
-#[must_use]
-pub fn is_no_variation(set: DeltaSetIndex) -> bool
-    ensures { IsTrue result ↔ IsNoVariation set.outer set.inner }
-{
-    set.outer == 0xFFFF && set.inner == 0xFFFF
+/// A map from indices to delta sets, as of `HVAR`, `VVAR` and `COLR`.
+#[derive(Clone, Copy, PartialEq, Eq, Hash, Debug)]
+pub struct DeltaSetIndexMap<'a> {
+    bytes: &'a [u8],
+}
+
+impl<'a> DeltaSetIndexMap<'a> {
+    /// Returns the map that begins at these bytes, or `None` if its format is neither 0 nor 1.
+    #[must_use]
+    pub fn new(bytes: &'a [u8]) -> Option<DeltaSetIndexMap<'a>>
+        ensures variant { IsSome result ↔ ((0 < length bytes.now) × (map_format bytes.now ≤ 1)) }
+        ensures bytes { IfSome result (λ map. map.bytes.now ≡ bytes.now) }
+    {
+        if u8::read_at(bytes, 0)? > 1 {
+            return None;
+        }
+        Some(DeltaSetIndexMap { bytes })
+    }
+
+    /// Returns the delta set of an index; the last entry is that of all later indices. Returns
+    /// `None` if the map has no entries, or ends before the entry does.
+    #[must_use]
+    pub fn get(&self, index: u32) -> Option<DeltaSetIndex>
+        ensures variant { IsSome result ↔ HasEntry self.now.bytes.now index }
+        ensures outer { IfSome result (λ set. set.outer
+            ≡ entry_of self.now.bytes.now index / 2 ^ inner_bits self.now.bytes.now) }
+        ensures inner { IfSome result (λ set. set.inner
+            ≡ entry_of self.now.bytes.now index % 2 ^ inner_bits self.now.bytes.now) }
+    {
+        read_delta_set_index(self.bytes, index)
+    }
 }
 
 // The parts of a map's entry format.
@@ -45,11 +85,10 @@ const INNER_INDEX_BIT_COUNT_MASK: u8 = 0x0F;
 
 const MAP_ENTRY_SIZE_MASK: u8 = 0x30;
 
-/// Reads the delta set of an index by a map of format 0 or 1; the last entry is that of all later
-/// indices. Returns `None` for another format or a map of no entries, or if the map ends before the
-/// entry does.
-#[must_use]
-pub fn read_delta_set_index(map: &[u8], index: u32) -> Option<DeltaSetIndex>
+// Reads the delta set of an index by a map of format 0 or 1; the last entry is that of all later
+// indices. Returns `None` for another format or a map of no entries, or if the map ends before the
+// entry does.
+pub(crate) fn read_delta_set_index(map: &[u8], index: u32) -> Option<DeltaSetIndex>
     ensures variant { IsSome result ↔ HasEntry map.now index }
     ensures outer { IfSome result (λ set.
         set.outer ≡ entry_of map.now index / 2 ^ inner_bits map.now) }

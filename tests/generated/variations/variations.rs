@@ -3,9 +3,33 @@
 //! Item variation stores: what `tests/examples.rs` does not see, with values from exact arithmetic.
 
 use crate::font_types::{F2Dot14, Fixed};
-use crate::variations::delta_sets::read_delta;
-use crate::variations::maps::{DeltaSetIndex, is_no_variation, read_delta_set_index};
-use crate::variations::regions::{RegionAxisCoordinates, axis_scalar, region_scalar};
+use crate::std_for_tests::test::Fail;
+use crate::variations::{
+    DeltaSetIndex, DeltaSetIndexMap, ItemVariationStore, RegionAxisCoordinates, StoreInstance,
+};
+
+// A store without subtables, whose list of regions, of at most 28 bytes, begins at 8.
+fn store_of(regions: &[u8]) -> [u8; 36] {
+    let mut store = [0; 36];
+    store[..8].copy_from_slice(&[0, 1, 0, 0, 0, 8, 0, 0]);
+    store[8..8 + regions.len()].copy_from_slice(regions);
+    store
+}
+
+// A store at these coordinates.
+fn at<'x>(
+    store: &'x [u8],
+    coordinates: &'x [F2Dot14],
+    scalars: &'x mut [Fixed],
+) -> Option<StoreInstance<'x>> {
+    ItemVariationStore::new(store)?.at(coordinates, scalars)
+}
+
+// The scalar of a region of a list.
+fn region_scalar(regions: &[u8], region: u16, coordinates: &[F2Dot14]) -> Option<Fixed> {
+    let (store, mut scalars) = (store_of(regions), [Fixed::ZERO; 2]);
+    at(&store[..8 + regions.len()], coordinates, &mut scalars)?.scalar(region)
+}
 
 #[test]
 fn scalars_of_axes() {
@@ -37,7 +61,7 @@ fn scalars_of_axes() {
             peak_coord: F2Dot14::from_bits(peak),
             end_coord: F2Dot14::from_bits(end),
         };
-        let scalar = axis_scalar(axis, F2Dot14::from_bits(coordinate));
+        let scalar = axis.scalar(F2Dot14::from_bits(coordinate));
         assert!(rt;
             scalar == Fixed::from_bits(bits),
             "{start} {peak} {end} at {coordinate}"
@@ -63,7 +87,7 @@ const REGIONS: [u8; 28] =
     [0, 2, 0, 2, 0, 0, 0, 3, 0, 3, 0, 0, 0, 3, 0, 3, 0, 0, 0, 0, 0, 0, 0, 0, 0, 3, 0, 3];
 
 #[test]
-fn scalars_of_regions() {
+fn scalars_of_regions() -> Result<(), Fail> {
     let rt = crate::std_for_tests::Host;
     let [one, two] = [1, 2].map(F2Dot14::from_bits);
     for &(region, coordinates, bits) in &[
@@ -86,8 +110,12 @@ fn scalars_of_regions() {
     // A coordinate that is missing is 0, and not the peak, which is 1.
     assert!(rt; region_scalar(&[0, 1, 0, 1, 0, 0, 64, 0, 64, 0], 0, &[]) == Some(Fixed::ZERO));
     // A count of regions with the reserved bit.
-    assert!(rt; region_scalar(&[0, 0, 0x7F, 0xFF], 0, &[]) == Some(Fixed::ONE));
-    assert!(rt; region_scalar(&[0, 0, 0x80, 0], 0, &[]).is_none());
+    let (most, reserved) = (store_of(&[0, 0, 0x7F, 0xFF]), store_of(&[0, 0, 0x80, 0]));
+    let (mut scalars, mut none) = ([Fixed::ZERO; 0x7FFF], [Fixed::ZERO; 0]);
+    let instance = at(&most, &[], &mut scalars).ok_or("the most regions")?;
+    assert!(rt; instance.scalar(0x7FFE) == Some(Fixed::ONE));
+    let instance = at(&reserved, &[], &mut none).ok_or("no region")?;
+    assert!(rt; instance.scalar(0).is_none());
     for len in 0..REGIONS.len() {
         assert!(rt; region_scalar(&REGIONS[..len], 1, &[]).is_none(), "{len}");
         assert!(rt;
@@ -95,15 +123,26 @@ fn scalars_of_regions() {
             "{len}"
         );
     }
+    Ok(())
 }
 
-// Two wide columns of one.
-const WIDE: [u8; 16] = [0, 1, 0, 2, 0, 1, 0, 0, 0, 1, 0, 2, 0, 3, 0, 4];
+// A store of one region, whose subtable at 16 has two wide columns of one.
+const WIDE: [u8; 32] = [
+    0, 1, 0, 0, 0, 12, 0, 1, 0, 0, 0, 16, 0, 0, 0, 1, // The store, and a list of one region.
+    0, 1, 0, 2, 0, 1, 0, 0, 0, 1, 0, 2, 0, 3, 0, 4,
+];
 
 #[test]
-fn more_wide_columns_than_columns() {
+fn more_wide_columns_than_columns() -> Result<(), Fail> {
     let rt = crate::std_for_tests::Host;
-    assert!(rt; read_delta(&WIDE, 0, 0).is_none());
+    let set = DeltaSetIndex { outer: 0, inner: 0 };
+    for &(words, is_there) in &[(2, false), (1, true), (0, true)] {
+        let (mut table, mut scalars) = (WIDE, [Fixed::ZERO]);
+        table[19] = words;
+        let instance = at(&table, &[], &mut scalars).ok_or("a store")?;
+        assert!(rt; instance.delta(set).is_some() == is_there, "{words}");
+    }
+    Ok(())
 }
 
 #[test]
@@ -118,9 +157,14 @@ fn indices_of_32_bits() {
     ] {
         let found = DeltaSetIndex::from_u32(index);
         assert!(rt; found == DeltaSetIndex { outer, inner }, "{index}");
-        assert!(rt; !is_no_variation(found), "{index}");
+        assert!(rt; !found.is_no_variation(), "{index}");
     }
-    assert!(rt; is_no_variation(DeltaSetIndex::from_u32(0xFFFF_FFFF)));
+    assert!(rt; DeltaSetIndex::from_u32(0xFFFF_FFFF) == DeltaSetIndex::NO_VARIATION);
+}
+
+// The delta set of an index.
+fn set_of(map: &[u8], index: u32) -> Option<DeltaSetIndex> {
+    DeltaSetIndexMap::new(map)?.get(index)
 }
 
 #[test]
@@ -132,7 +176,7 @@ fn maps_to_delta_sets() {
         (0xFFFE, 0xFFFF, false),
         (0x1_FFFF, 0xFFFF, false),
     ] {
-        let found = is_no_variation(DeltaSetIndex { outer, inner });
+        let found = DeltaSetIndex { outer, inner }.is_no_variation();
         assert!(rt; found == is_none, "{outer} {inner}");
     }
     for map in [
@@ -145,6 +189,6 @@ fn maps_to_delta_sets() {
         &[1, 0x00, 0, 0, 0, 1],
         &[2, 0x00, 0, 1, 7, 7, 7],
     ] {
-        assert!(rt; read_delta_set_index(map, 0).is_none(), "{}", map.len());
+        assert!(rt; set_of(map, 0).is_none(), "{}", map.len());
     }
 }

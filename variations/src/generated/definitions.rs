@@ -686,7 +686,7 @@ pub mod font_ids {
 pub mod variations {
     /// Tables HVAR and item variation stores, from offset to offset.
     ///
-    /// In the order of `crates/variations/specs/Advances.antt`: [`offset_at`](mod@Advances_antt::offset_at), [`HasTarget`](mod@Advances_antt::HasTarget), [`target_of`](mod@Advances_antt::target_of), [`HasGlyphSet`](mod@Advances_antt::HasGlyphSet), [`outer_index`](mod@Advances_antt::outer_index), [`inner_index`](mod@Advances_antt::inner_index), [`data_count`](mod@Advances_antt::data_count), [`data_place`](mod@Advances_antt::data_place), [`HasRegionList`](mod@Advances_antt::HasRegionList), [`HasData`](mod@Advances_antt::HasData), [`regions_of`](mod@Advances_antt::regions_of), [`subtable_of`](mod@Advances_antt::subtable_of).
+    /// In the order of `crates/variations/specs/Advances.antt`: [`offset_at`](mod@Advances_antt::offset_at), [`HasTarget`](mod@Advances_antt::HasTarget), [`target_of`](mod@Advances_antt::target_of), [`HasRegionList`](mod@Advances_antt::HasRegionList), [`hvar_version`](mod@Advances_antt::hvar_version), [`IsHvar`](mod@Advances_antt::IsHvar), [`HasGlyphSet`](mod@Advances_antt::HasGlyphSet), [`outer_index`](mod@Advances_antt::outer_index), [`inner_index`](mod@Advances_antt::inner_index), [`data_count`](mod@Advances_antt::data_count), [`data_place`](mod@Advances_antt::data_place), [`HasData`](mod@Advances_antt::HasData), [`regions_of`](mod@Advances_antt::regions_of), [`subtable_of`](mod@Advances_antt::subtable_of).
     pub mod Advances_antt {
         use crate::definitions::font_base::Bytes_antt::numeral;
         use crate::definitions::variations::Variations_antt::{HasEntry, entry_of, inner_bits};
@@ -718,6 +718,37 @@ pub mod variations {
         /// ```
         /// [`offset_at`]
         pub mod target_of {}
+
+        /// the store is of format 1, and has a list of regions
+        ///
+        /// ```text
+        /// record HasRegionList (store : List ℕ) : Type 0 where
+        ///   format : numeral (take 2 store) ≡ 1
+        ///   list : HasTarget store 2
+        /// ```
+        /// [`numeral`], [`HasTarget`]
+        pub mod HasRegionList {}
+
+        /// HVAR (OpenType, HVAR: majorVersion at 0, itemVariationStoreOffset at 4, and a header of 20 bytes)
+        ///
+        /// ```text
+        /// abbrev hvar_version : List ℕ → ℕ
+        /// hvar_version hvar = numeral (take 2 hvar)
+        /// ```
+        /// [`numeral`]
+        pub mod hvar_version {}
+
+        /// a table of major version 1, with the whole header and a store
+        ///
+        /// ```text
+        /// record IsHvar (hvar : List ℕ) : Type 0 where
+        ///   version : hvar_version hvar ≡ 1
+        ///   header : 20 ≤ length hvar
+        ///   store : HasTarget hvar 4
+        ///   list : HasRegionList (target_of hvar 4)
+        /// ```
+        /// [`hvar_version`], [`HasTarget`], [`HasRegionList`], [`target_of`]
+        pub mod IsHvar {}
 
         /// the delta set of a glyph (OpenType, HVAR: itemVariationStoreOffset at 4, advanceWidthMappingOffset at 8; without
         /// a map, the outer index is zero and the inner index is the glyph)
@@ -771,16 +802,6 @@ pub mod variations {
         /// ```
         pub mod data_place {}
 
-        /// the store is of format 1, and has a list of regions
-        ///
-        /// ```text
-        /// record HasRegionList (store : List ℕ) : Type 0 where
-        ///   format : numeral (take 2 store) ≡ 1
-        ///   list : HasTarget store 2
-        /// ```
-        /// [`numeral`], [`HasTarget`]
-        pub mod HasRegionList {}
-
         /// the store has its list of regions and all offsets of its header, that of the subtable points into it, and the inner
         /// index has the 16 bits of one
         ///
@@ -818,7 +839,7 @@ pub mod variations {
 
     /// Values of an evaluator of variations.
     ///
-    /// In the order of `crates/variations/specs/Evaluator.antt`: [`value_start`](mod@Evaluator_antt::value_start), [`axis_part`](mod@Evaluator_antt::axis_part), [`value_part`](mod@Evaluator_antt::value_part), [`IsSetting`](mod@Evaluator_antt::IsSetting), [`ParsesSetting`](mod@Evaluator_antt::ParsesSetting), [`HasRange`](mod@Evaluator_antt::HasRange), [`lerp_part`](mod@Evaluator_antt::lerp_part), [`lerp_whole`](mod@Evaluator_antt::lerp_whole), [`lerp_rise`](mod@Evaluator_antt::lerp_rise), [`on_line`](mod@Evaluator_antt::on_line), [`FitsLerp`](mod@Evaluator_antt::FitsLerp), [`IsLerp`](mod@Evaluator_antt::IsLerp), [`mapping_count`](mod@Evaluator_antt::mapping_count), [`mapping_at`](mod@Evaluator_antt::mapping_at), [`AreBelow`](mod@Evaluator_antt::AreBelow), [`IsSegmentEnd`](mod@Evaluator_antt::IsSegmentEnd), [`IsMappedIn`](mod@Evaluator_antt::IsMappedIn), [`IsMapped`](mod@Evaluator_antt::IsMapped), [`avar_axis_count`](mod@Evaluator_antt::avar_axis_count), [`position_map_count`](mod@Evaluator_antt::position_map_count), [`map_offset`](mod@Evaluator_antt::map_offset), [`map_length`](mod@Evaluator_antt::map_length), [`HasSegmentMap`](mod@Evaluator_antt::HasSegmentMap), [`segment_map_bytes`](mod@Evaluator_antt::segment_map_bytes), [`IsStoredCoordinate`](mod@Evaluator_antt::IsStoredCoordinate), [`IsFinal`](mod@Evaluator_antt::IsFinal).
+    /// In the order of `crates/variations/specs/Evaluator.antt`: [`value_start`](mod@Evaluator_antt::value_start), [`axis_part`](mod@Evaluator_antt::axis_part), [`value_part`](mod@Evaluator_antt::value_part), [`IsSetting`](mod@Evaluator_antt::IsSetting), [`ParsesSetting`](mod@Evaluator_antt::ParsesSetting), [`fvar_version`](mod@Evaluator_antt::fvar_version), [`fvar_axis_count`](mod@Evaluator_antt::fvar_axis_count), [`fvar_axis_size`](mod@Evaluator_antt::fvar_axis_size), [`IsFvar`](mod@Evaluator_antt::IsFvar), [`axis_offset`](mod@Evaluator_antt::axis_offset), [`HasAxis`](mod@Evaluator_antt::HasAxis), [`axis_bytes`](mod@Evaluator_antt::axis_bytes), [`HasRange`](mod@Evaluator_antt::HasRange), [`lerp_part`](mod@Evaluator_antt::lerp_part), [`lerp_whole`](mod@Evaluator_antt::lerp_whole), [`lerp_rise`](mod@Evaluator_antt::lerp_rise), [`on_line`](mod@Evaluator_antt::on_line), [`FitsLerp`](mod@Evaluator_antt::FitsLerp), [`IsLerp`](mod@Evaluator_antt::IsLerp), [`mapping_count`](mod@Evaluator_antt::mapping_count), [`mapping_at`](mod@Evaluator_antt::mapping_at), [`AreBelow`](mod@Evaluator_antt::AreBelow), [`IsSegmentEnd`](mod@Evaluator_antt::IsSegmentEnd), [`IsMappedIn`](mod@Evaluator_antt::IsMappedIn), [`IsMapped`](mod@Evaluator_antt::IsMapped), [`avar_version`](mod@Evaluator_antt::avar_version), [`IsAvar`](mod@Evaluator_antt::IsAvar), [`avar_axis_count`](mod@Evaluator_antt::avar_axis_count), [`position_map_count`](mod@Evaluator_antt::position_map_count), [`map_offset`](mod@Evaluator_antt::map_offset), [`map_length`](mod@Evaluator_antt::map_length), [`HasSegmentMap`](mod@Evaluator_antt::HasSegmentMap), [`segment_map_bytes`](mod@Evaluator_antt::segment_map_bytes), [`IsStoredCoordinate`](mod@Evaluator_antt::IsStoredCoordinate), [`IsFinal`](mod@Evaluator_antt::IsFinal).
     pub mod Evaluator_antt {
         use crate::definitions::font_base::{
             Bytes_antt::numeral,
@@ -879,6 +900,75 @@ pub mod variations {
         /// ```
         /// [`IsSetting`], [`value_start`], [`IsChecked`], [`axis_part`], [`IsAcceptable`], [`ParsesFixedPoint`], [`fixed_bits`], [`value_part`]
         pub mod ParsesSetting {}
+
+        /// axes (OpenType, fvar: majorVersion at 0, axesArrayOffset at 4, axisCount at 8, axisSize at 10, a header of 16
+        /// bytes, and "VariationAxisRecord", of 20)
+        ///
+        /// ```text
+        /// abbrev fvar_version : List ℕ → ℕ
+        /// fvar_version fvar = numeral (take 2 fvar)
+        /// ```
+        /// [`numeral`]
+        pub mod fvar_version {}
+
+        /// axes (OpenType, fvar: majorVersion at 0, axesArrayOffset at 4, axisCount at 8, axisSize at 10, a header of 16
+        /// bytes, and "VariationAxisRecord", of 20)
+        ///
+        /// ```text
+        /// abbrev fvar_axis_count : List ℕ → ℕ
+        /// fvar_axis_count fvar = numeral (take 2 (drop 8 fvar))
+        /// ```
+        /// [`numeral`]
+        pub mod fvar_axis_count {}
+
+        /// axes (OpenType, fvar: majorVersion at 0, axesArrayOffset at 4, axisCount at 8, axisSize at 10, a header of 16
+        /// bytes, and "VariationAxisRecord", of 20)
+        ///
+        /// ```text
+        /// abbrev fvar_axis_size : List ℕ → ℕ
+        /// fvar_axis_size fvar = numeral (take 2 (drop 10 fvar))
+        /// ```
+        /// [`numeral`]
+        pub mod fvar_axis_size {}
+
+        /// a table of major version 1, with the whole header, and records that are long enough
+        ///
+        /// ```text
+        /// record IsFvar (fvar : List ℕ) : Type 0 where
+        ///   version : fvar_version fvar ≡ 1
+        ///   header : 16 ≤ length fvar
+        ///   size : 20 ≤ fvar_axis_size fvar
+        /// ```
+        /// [`fvar_version`], [`fvar_axis_size`]
+        pub mod IsFvar {}
+
+        /// where the record of an axis is
+        ///
+        /// ```text
+        /// abbrev axis_offset : List ℕ → ℕ → ℕ
+        /// axis_offset fvar axis = numeral (take 2 (drop 4 fvar)) + fvar_axis_size fvar * axis
+        /// ```
+        /// [`numeral`], [`fvar_axis_size`]
+        pub mod axis_offset {}
+
+        /// the table has the axis, and does not end before its record does
+        ///
+        /// ```text
+        /// record HasAxis (fvar : List ℕ) (axis : ℕ) : Type 0 where
+        ///   within : axis < fvar_axis_count fvar
+        ///   bytes : axis_offset fvar axis + 20 ≤ length fvar
+        /// ```
+        /// [`fvar_axis_count`], [`axis_offset`]
+        pub mod HasAxis {}
+
+        /// the bytes from its record on
+        ///
+        /// ```text
+        /// abbrev axis_bytes : List ℕ → ℕ → List ℕ
+        /// axis_bytes fvar axis = drop (axis_offset fvar axis) fvar
+        /// ```
+        /// [`axis_offset`]
+        pub mod axis_bytes {}
 
         /// an axis that values can be normalized by: the default is within the range, and 16.16 holds the length of the range
         ///
@@ -1018,8 +1108,27 @@ pub mod variations {
         /// [`AreBelow`], [`mapping_count`], [`fixed_bits`], [`IsSegmentEnd`], [`IsMappedIn`]
         pub mod IsMapped {}
 
-        /// where the segment map of an axis is (OpenType, avar: axisCount at 6, and from 8 on for each axis
-        /// positionMapCount and as many mappings)
+        /// where the segment map of an axis is (OpenType, avar: majorVersion at 0, axisCount at 6, and from 8 on for each
+        /// axis positionMapCount and as many mappings)
+        ///
+        /// ```text
+        /// abbrev avar_version : List ℕ → ℕ
+        /// avar_version avar = numeral (take 2 avar)
+        /// ```
+        /// [`numeral`]
+        pub mod avar_version {}
+
+        /// a table of major version 1, with the whole header
+        ///
+        /// ```text
+        /// record IsAvar (avar : List ℕ) : Type 0 where
+        ///   version : avar_version avar ≡ 1
+        ///   header : 8 ≤ length avar
+        /// ```
+        /// [`avar_version`]
+        pub mod IsAvar {}
+
+        /// a table of major version 1, with the whole header
         ///
         /// ```text
         /// abbrev avar_axis_count : List ℕ → ℕ

@@ -14,10 +14,12 @@ use crate::definitions::font_ids::NameId_antt::name_number;
 use crate::definitions::font_tags::Tag_antt::tag_bytes;
 #[cfg(doc)]
 use crate::definitions::variations::Evaluator_antt::{
-    HasRange, HasSegmentMap, IsFinal, IsMapped, IsStoredCoordinate, ParsesSetting, map_offset,
-    segment_map_bytes,
+    HasAxis, HasRange, HasSegmentMap, IsAvar, IsFinal, IsFvar, IsMapped, ParsesSetting,
+    avar_axis_count, axis_bytes, fvar_axis_count, map_offset, segment_map_bytes,
 };
 
+use core::iter::FusedIterator;
+use core::str::FromStr;
 use font_types_proved::{DecimalFault, F2Dot14, Fixed, InvalidTag, NameId, Scalar, Tag};
 
 // ---- settings
@@ -25,7 +27,7 @@ use font_types_proved::{DecimalFault, F2Dot14, Fixed, InvalidTag, NameId, Scalar
 /// A user's value on an axis.
 ///
 /// The source and its contracts: `crates/variations/src/evaluator.rt`.
-#[derive(Clone, Copy, PartialEq, Debug)]
+#[derive(Clone, Copy, PartialEq, Eq, Hash, Debug)]
 pub struct Setting {
     /// The tag of the axis.
     pub axis: Tag,
@@ -36,7 +38,7 @@ pub struct Setting {
 /// Why a text is not a setting.
 ///
 /// The source and its contracts: `crates/variations/src/evaluator.rt`.
-#[derive(Clone, PartialEq, Debug)]
+#[derive(Clone, PartialEq, Eq, Debug)]
 pub enum SettingError {
     /// It has no `=`.
     NoValue,
@@ -67,23 +69,25 @@ fn split_setting(text: &str) -> Option<(&str, &str)> {
 
 /// Parses a setting such as `wght=650` or `wdth=87.5`: the tag of an axis, and a decimal.
 ///
-/// # Errors
-///
-/// Returns the error of the first wrong part: `NoValue` without a `=`, `Axis` if the text before it
+/// The error is that of the first wrong part: `NoValue` without a `=`, `Axis` if the text before it
 /// is not a tag, `Value` if the text after it is not a decimal in range.
 ///
 /// <details><summary>Contract</summary>
 ///
 /// ```text
-/// ensures { ParsesSetting text.now result }
+/// ghost from_str_gives = { ParsesSetting };
 /// ```
 /// [Notation](crate::definitions): [`ParsesSetting`]
 /// </details>
-pub fn read_setting(text: &str) -> Result<Setting, SettingError> {
-    let (axis, value) = split_setting(text).ok_or(SettingError::NoValue)?;
-    let axis = Tag::new_checked(axis.as_bytes()).map_err(SettingError::Axis)?;
-    let value = Fixed::from_decimal(value).map_err(SettingError::Value)?;
-    Ok(Setting { axis, value })
+impl FromStr for Setting {
+    type Err = SettingError;
+
+    fn from_str(text: &str) -> Result<Setting, SettingError> {
+        let (axis, value) = split_setting(text).ok_or(SettingError::NoValue)?;
+        let axis = Tag::new_checked(axis.as_bytes()).map_err(SettingError::Axis)?;
+        let value = Fixed::from_decimal(value).map_err(SettingError::Value)?;
+        Ok(Setting { axis, value })
+    }
 }
 
 // ---- `fvar`: normalized coordinates
@@ -91,7 +95,7 @@ pub fn read_setting(text: &str) -> Result<Setting, SettingError> {
 /// A variation axis, a record of `fvar`.
 ///
 /// The source and its contracts: `crates/variations/src/evaluator.rt`.
-#[derive(Clone, Copy, Debug, PartialEq)]
+#[derive(Clone, Copy, PartialEq, Eq, Hash, Debug)]
 pub struct VariationAxisRecord {
     /// The tag of the axis, as `wght`.
     pub axis_tag: Tag,
@@ -107,27 +111,90 @@ pub struct VariationAxisRecord {
     pub axis_name_id: NameId,
 }
 
-/// Reads an axis of `fvar`, or returns `None` if there are fewer than 20 bytes.
+/// A table `fvar` of major version 1.
+///
+/// The source and its contracts: `crates/variations/src/evaluator.rt`.
 ///
 /// <details><summary>Contract</summary>
 ///
 /// ```text
-/// ensures variant { IsSome result ↔ (20 ≤ length bytes.now) }
-/// ensures axis_tag { IfSome result (λ axis. tag_bytes axis.axis_tag ≡ take 4 bytes.now) }
-/// ensures min_value { IfSome result (λ axis.
-///     fixed_bits axis.min_value ≡ signed_numeral 4 (take 4 (drop 4 bytes.now))) }
-/// ensures default_value { IfSome result (λ axis.
-///     fixed_bits axis.default_value ≡ signed_numeral 4 (take 4 (drop 8 bytes.now))) }
-/// ensures max_value { IfSome result (λ axis.
-///     fixed_bits axis.max_value ≡ signed_numeral 4 (take 4 (drop 12 bytes.now))) }
-/// ensures flags { IfSome result (λ axis. axis.flags ≡ numeral (take 2 (drop 16 bytes.now))) }
-/// ensures axis_name_id { IfSome result (λ axis.
-///     name_number axis.axis_name_id ≡ numeral (take 2 (drop 18 bytes.now))) }
+/// ghost header: { IsFvar bytes.now },
 /// ```
-/// [Notation](crate::definitions): [`tag_bytes`], [`fixed_bits`], [`signed_numeral`], [`numeral`], [`name_number`]
+/// [Notation](crate::definitions): [`IsFvar`]
 /// </details>
-#[must_use]
-pub fn read_axis(bytes: &[u8]) -> Option<VariationAxisRecord> {
+#[derive(Clone, Copy, Debug)]
+pub struct Fvar<'a> {
+    bytes: &'a [u8],
+}
+
+impl<'a> Fvar<'a> {
+    /// Returns the table that begins at these bytes, or `None` if its major version is not 1, it
+    /// ends before its header does, or its records are shorter than an axis.
+    ///
+    /// <details><summary>Contract</summary>
+    ///
+    /// ```text
+    /// ensures variant { IsSome result ↔ IsFvar bytes.now }
+    /// ensures bytes { IfSome result (λ fvar. fvar.bytes.now ≡ bytes.now) }
+    /// ```
+    /// [Notation](crate::definitions): [`IsFvar`]
+    /// </details>
+    #[must_use]
+    pub fn new(bytes: &'a [u8]) -> Option<Fvar<'a>> {
+        if u16::read_at(bytes, 0)? != 1 || bytes.len() < 16 || u16::read_at(bytes, 10)? < 20 {
+            return None;
+        }
+        Some(Fvar { bytes })
+    }
+
+    /// Returns the number of axes.
+    ///
+    /// <details><summary>Contract</summary>
+    ///
+    /// ```text
+    /// ensures { result ≡ fvar_axis_count self.now.bytes.now }
+    /// ```
+    /// [Notation](crate::definitions): [`fvar_axis_count`]
+    /// </details>
+    #[must_use]
+    pub fn axis_count(&self) -> u16 {
+        u16::read_at(self.bytes, 8).unwrap_or(0)
+    }
+
+    /// Returns an axis, or `None` if the table has no such axis, or ends before its record does.
+    ///
+    /// <details><summary>Contract</summary>
+    ///
+    /// ```text
+    /// ensures variant { IsSome result ↔ HasAxis self.now.bytes.now index }
+    /// ensures axis_tag { IfSome result (λ axis.
+    ///     tag_bytes axis.axis_tag ≡ take 4 (axis_bytes self.now.bytes.now index)) }
+    /// ensures min_value { IfSome result (λ axis. fixed_bits axis.min_value
+    ///     ≡ signed_numeral 4 (take 4 (drop 4 (axis_bytes self.now.bytes.now index)))) }
+    /// ensures default_value { IfSome result (λ axis. fixed_bits axis.default_value
+    ///     ≡ signed_numeral 4 (take 4 (drop 8 (axis_bytes self.now.bytes.now index)))) }
+    /// ensures max_value { IfSome result (λ axis. fixed_bits axis.max_value
+    ///     ≡ signed_numeral 4 (take 4 (drop 12 (axis_bytes self.now.bytes.now index)))) }
+    /// ensures flags { IfSome result (λ axis. axis.flags
+    ///     ≡ numeral (take 2 (drop 16 (axis_bytes self.now.bytes.now index)))) }
+    /// ensures axis_name_id { IfSome result (λ axis. name_number axis.axis_name_id
+    ///     ≡ numeral (take 2 (drop 18 (axis_bytes self.now.bytes.now index)))) }
+    /// ```
+    /// [Notation](crate::definitions): [`HasAxis`], [`tag_bytes`], [`axis_bytes`], [`fixed_bits`], [`signed_numeral`], [`numeral`], [`name_number`]
+    /// </details>
+    #[must_use]
+    pub fn axis(&self, index: u16) -> Option<VariationAxisRecord> {
+        if index >= self.axis_count() {
+            return None;
+        }
+        let start = usize::from(u16::read_at(self.bytes, 4)?);
+        let size = usize::from(u16::read_at(self.bytes, 10)?);
+        read_axis(self.bytes.get(start + size * usize::from(index)..)?)
+    }
+}
+
+// Reads an axis of `fvar`, or returns `None` if there are fewer than 20 bytes.
+fn read_axis(bytes: &[u8]) -> Option<VariationAxisRecord> {
     Some(VariationAxisRecord {
         axis_tag: Tag::read_at(bytes, 0)?,
         min_value: Fixed::read_at(bytes, 4)?,
@@ -160,52 +227,54 @@ fn has_range(axis: VariationAxisRecord) -> bool {
         && axis.max_value.checked_sub(axis.min_value).is_some()
 }
 
-/// Normalizes a value of an axis to -1..1: clamps it to the axis, and divides its distance from the
-/// default by that of the end on its side. Returns `None` unless `min <= default <= max` and 16.16
-/// holds `max - min`.
-///
-/// <details><summary>Contract</summary>
-///
-/// ```text
-/// ensures variant { IsSome result ↔ HasRange (fixed_bits axis.min_value)
-///     (fixed_bits axis.default_value) (fixed_bits axis.max_value) }
-/// ensures default { IfSome result (λ coordinate. fixed_bits value ≡ fixed_bits axis.default_value
-///     → fixed_bits coordinate ≡ pos 0) }
-/// ensures above { IfSome result (λ coordinate. fixed_bits axis.default_value <ℤ fixed_bits value
-///     → fixed_bits value ≤ℤ fixed_bits axis.max_value
-///     → IsQuotient 32 16 (fixed_bits value -ℤ fixed_bits axis.default_value)
-///     (fixed_bits axis.max_value -ℤ fixed_bits axis.default_value) (fixed_bits coordinate)) }
-/// ensures below { IfSome result (λ coordinate. fixed_bits value <ℤ fixed_bits axis.default_value
-///     → fixed_bits axis.min_value ≤ℤ fixed_bits value
-///     → IsQuotient 32 16 (fixed_bits axis.default_value -ℤ fixed_bits value)
-///     (fixed_bits axis.default_value -ℤ fixed_bits axis.min_value)
-///     (neg_ℤ (fixed_bits coordinate))) }
-/// ensures no_rise { IfSome result (λ coordinate.
-///     fixed_bits axis.max_value ≡ fixed_bits axis.default_value
-///     → fixed_bits axis.default_value ≤ℤ fixed_bits value → fixed_bits coordinate ≡ pos 0) }
-/// ensures no_fall { IfSome result (λ coordinate.
-///     fixed_bits axis.min_value ≡ fixed_bits axis.default_value
-///     → fixed_bits value ≤ℤ fixed_bits axis.default_value → fixed_bits coordinate ≡ pos 0) }
-/// ensures max { IfSome result (λ coordinate.
-///     fixed_bits axis.default_value <ℤ fixed_bits axis.max_value
-///     → fixed_bits axis.max_value ≤ℤ fixed_bits value
-///     → fixed_bits coordinate ≡ fixed_bits Fixed.ONE) }
-/// ensures min { IfSome result (λ coordinate.
-///     fixed_bits axis.min_value <ℤ fixed_bits axis.default_value
-///     → fixed_bits value ≤ℤ fixed_bits axis.min_value
-///     → fixed_bits coordinate ≡ fixed_bits Fixed.NEG_ONE) }
-/// ensures low { IfSome result (λ coordinate. fixed_bits Fixed.NEG_ONE ≤ℤ fixed_bits coordinate) }
-/// ensures high { IfSome result (λ coordinate. fixed_bits coordinate ≤ℤ fixed_bits Fixed.ONE) }
-/// ```
-/// [Notation](crate::definitions): [`HasRange`], [`fixed_bits`], [`IsQuotient`]
-/// </details>
-#[must_use]
-pub fn normalize(value: Fixed, axis: VariationAxisRecord) -> Option<Fixed> {
-    if has_range(axis) {
-        let clamped = clamp(value, axis.min_value, axis.max_value);
-        Some(normalize_clamped(clamped, axis))
-    } else {
-        None
+impl VariationAxisRecord {
+    /// Normalizes a value to -1..1: clamps it to the axis, and divides its distance from the default
+    /// by that of the end on its side. Returns `None` unless `min <= default <= max` and 16.16
+    /// holds `max - min`.
+    ///
+    /// <details><summary>Contract</summary>
+    ///
+    /// ```text
+    /// ensures variant { IsSome result ↔ HasRange (fixed_bits self.now.min_value)
+    ///     (fixed_bits self.now.default_value) (fixed_bits self.now.max_value) }
+    /// ensures default { IfSome result (λ coordinate. fixed_bits value ≡ fixed_bits self.now.default_value
+    ///     → fixed_bits coordinate ≡ pos 0) }
+    /// ensures above { IfSome result (λ coordinate. fixed_bits self.now.default_value <ℤ fixed_bits value
+    ///     → fixed_bits value ≤ℤ fixed_bits self.now.max_value
+    ///     → IsQuotient 32 16 (fixed_bits value -ℤ fixed_bits self.now.default_value)
+    ///     (fixed_bits self.now.max_value -ℤ fixed_bits self.now.default_value) (fixed_bits coordinate)) }
+    /// ensures below { IfSome result (λ coordinate. fixed_bits value <ℤ fixed_bits self.now.default_value
+    ///     → fixed_bits self.now.min_value ≤ℤ fixed_bits value
+    ///     → IsQuotient 32 16 (fixed_bits self.now.default_value -ℤ fixed_bits value)
+    ///     (fixed_bits self.now.default_value -ℤ fixed_bits self.now.min_value)
+    ///     (neg_ℤ (fixed_bits coordinate))) }
+    /// ensures no_rise { IfSome result (λ coordinate.
+    ///     fixed_bits self.now.max_value ≡ fixed_bits self.now.default_value
+    ///     → fixed_bits self.now.default_value ≤ℤ fixed_bits value → fixed_bits coordinate ≡ pos 0) }
+    /// ensures no_fall { IfSome result (λ coordinate.
+    ///     fixed_bits self.now.min_value ≡ fixed_bits self.now.default_value
+    ///     → fixed_bits value ≤ℤ fixed_bits self.now.default_value → fixed_bits coordinate ≡ pos 0) }
+    /// ensures max { IfSome result (λ coordinate.
+    ///     fixed_bits self.now.default_value <ℤ fixed_bits self.now.max_value
+    ///     → fixed_bits self.now.max_value ≤ℤ fixed_bits value
+    ///     → fixed_bits coordinate ≡ fixed_bits Fixed.ONE) }
+    /// ensures min { IfSome result (λ coordinate.
+    ///     fixed_bits self.now.min_value <ℤ fixed_bits self.now.default_value
+    ///     → fixed_bits value ≤ℤ fixed_bits self.now.min_value
+    ///     → fixed_bits coordinate ≡ fixed_bits Fixed.NEG_ONE) }
+    /// ensures low { IfSome result (λ coordinate. fixed_bits Fixed.NEG_ONE ≤ℤ fixed_bits coordinate) }
+    /// ensures high { IfSome result (λ coordinate. fixed_bits coordinate ≤ℤ fixed_bits Fixed.ONE) }
+    /// ```
+    /// [Notation](crate::definitions): [`HasRange`], [`fixed_bits`], [`IsQuotient`]
+    /// </details>
+    #[must_use]
+    pub fn normalize(&self, value: Fixed) -> Option<Fixed> {
+        if has_range(*self) {
+            let clamped = clamp(value, self.min_value, self.max_value);
+            Some(normalize_clamped(clamped, *self))
+        } else {
+            None
+        }
     }
 }
 
@@ -221,40 +290,103 @@ fn normalize_clamped(value: Fixed, axis: VariationAxisRecord) -> Fixed {
     }
 }
 
-/// Clamps a coordinate to -1..1, and rounds it half up to 2.14, as `avar` and tuples store it.
-///
-/// <details><summary>Contract</summary>
-///
-/// ```text
-/// ensures value { IsStoredCoordinate coordinate result }
-/// ensures low { f2dot14_bits F2Dot14.NEG_ONE ≤ℤ f2dot14_bits result }
-/// ensures high { f2dot14_bits result ≤ℤ f2dot14_bits F2Dot14.ONE }
-/// ```
-/// [Notation](crate::definitions): [`IsStoredCoordinate`], [`f2dot14_bits`]
-/// </details>
-#[must_use]
-pub fn to_stored(coordinate: Fixed) -> F2Dot14 {
+// Clamps a coordinate to -1..1, and rounds it half up to 2.14, as `avar` and tuples store it.
+fn to_stored(coordinate: Fixed) -> F2Dot14 {
     coordinate.clamp(Fixed::NEG_ONE, Fixed::ONE).to_f2dot14()
 }
 
 // ---- `avar`: segment maps
 
-/// Finds the mappings of an axis in a table `avar`, each of four bytes. Returns `None` if the table
-/// has no such axis, or ends before the map of the axis does.
+/// A table `avar` of major version 1.
 ///
-/// The maps of the axes before it are walked, so for all axes use [`SegmentMaps`]. The version of
-/// the table is not read: it has to be 1.
+/// The source and its contracts: `crates/variations/src/evaluator.rt`.
 ///
 /// <details><summary>Contract</summary>
 ///
 /// ```text
-/// ensures variant { IsSome result ↔ HasSegmentMap avar.now axis }
-/// ensures value { IfSome result (λ map. map.now ≡ segment_map_bytes avar.now axis) }
+/// ghost header: { IsAvar bytes.now },
 /// ```
-/// [Notation](crate::definitions): [`HasSegmentMap`], [`segment_map_bytes`]
+/// [Notation](crate::definitions): [`IsAvar`]
 /// </details>
-#[must_use]
-pub fn segment_map(avar: &[u8], axis: u16) -> Option<&[u8]> {
+#[derive(Clone, Copy, Debug)]
+pub struct Avar<'a> {
+    bytes: &'a [u8],
+}
+
+impl<'a> Avar<'a> {
+    /// Returns the table that begins at these bytes, or `None` if its major version is not 1, or it
+    /// ends before its header does.
+    ///
+    /// <details><summary>Contract</summary>
+    ///
+    /// ```text
+    /// ensures variant { IsSome result ↔ IsAvar bytes.now }
+    /// ensures bytes { IfSome result (λ avar. avar.bytes.now ≡ bytes.now) }
+    /// ```
+    /// [Notation](crate::definitions): [`IsAvar`]
+    /// </details>
+    #[must_use]
+    pub fn new(bytes: &'a [u8]) -> Option<Avar<'a>> {
+        if u16::read_at(bytes, 0)? != 1 || bytes.len() < 8 {
+            return None;
+        }
+        Some(Avar { bytes })
+    }
+
+    /// Returns the number of axes.
+    ///
+    /// <details><summary>Contract</summary>
+    ///
+    /// ```text
+    /// ensures { result ≡ avar_axis_count self.now.bytes.now }
+    /// ```
+    /// [Notation](crate::definitions): [`avar_axis_count`]
+    /// </details>
+    #[must_use]
+    pub fn axis_count(&self) -> u16 {
+        u16::read_at(self.bytes, 6).unwrap_or(0)
+    }
+
+    /// Returns the segment map of an axis, or `None` if the table has no such axis, or ends before
+    /// the map does.
+    ///
+    /// The maps of the axes before it are walked, so for all axes use
+    /// [`segment_maps`](Avar::segment_maps).
+    ///
+    /// <details><summary>Contract</summary>
+    ///
+    /// ```text
+    /// ensures variant { IsSome result ↔ HasSegmentMap self.now.bytes.now axis }
+    /// ensures value { IfSome result (λ map.
+    ///     map.mappings.now ≡ segment_map_bytes self.now.bytes.now axis) }
+    /// ```
+    /// [Notation](crate::definitions): [`HasSegmentMap`], [`segment_map_bytes`]
+    /// </details>
+    #[must_use]
+    pub fn segment_map(&self, axis: u16) -> Option<SegmentMap<'a>> {
+        let mappings = find_mappings(self.bytes, axis)?;
+        Some(SegmentMap { mappings })
+    }
+
+    /// Returns the segment maps of the axes, in order, up to the first that the table does not
+    /// have. Each is found in the same time.
+    ///
+    /// <details><summary>Contract</summary>
+    ///
+    /// ```text
+    /// ensures avar { result.avar.now ≡ self.now.bytes.now }
+    /// ensures axis { result.axis ≡ 0 }
+    /// ```
+    /// [Notation](crate::definitions)
+    /// </details>
+    #[must_use]
+    pub fn segment_maps(&self) -> SegmentMaps<'a> {
+        SegmentMaps { avar: self.bytes, axis: 0, start: 8 }
+    }
+}
+
+// Finds the mappings of an axis in a table `avar`, each of four bytes.
+fn find_mappings(avar: &[u8], axis: u16) -> Option<&[u8]> {
     if axis >= u16::read_at(avar, 6)? {
         return None;
     }
@@ -266,8 +398,7 @@ pub fn segment_map(avar: &[u8], axis: u16) -> Option<&[u8]> {
     avar.get(start + 2..)?.get(..4 * usize::from(count))
 }
 
-/// The segment maps of a table `avar`, one axis after another, each found in the same time. The
-/// version of the table is not read: it has to be 1.
+/// The segment maps of a table `avar`, from [`Avar::segment_maps`].
 ///
 /// The source and its contracts: `crates/variations/src/evaluator.rt`.
 ///
@@ -278,53 +409,103 @@ pub fn segment_map(avar: &[u8], axis: u16) -> Option<&[u8]> {
 /// ```
 /// [Notation](crate::definitions): [`map_offset`]
 /// </details>
-#[derive(Clone, Copy, Debug)]
+#[derive(Debug)]
 pub struct SegmentMaps<'a> {
     avar: &'a [u8],
     axis: u16,
     start: usize,
 }
 
-impl<'a> SegmentMaps<'a> {
-    /// Starts before the first axis.
-    ///
-    /// <details><summary>Contract</summary>
-    ///
-    /// ```text
-    /// ensures avar { result.avar.now ≡ avar.now }
-    /// ensures axis { result.axis ≡ 0 }
-    /// ```
-    /// [Notation](crate::definitions)
-    /// </details>
-    #[must_use]
-    pub fn new(avar: &'a [u8]) -> SegmentMaps<'a> {
-        SegmentMaps { avar, axis: 0, start: 8 }
-    }
+/// <details><summary>Contract</summary>
+///
+/// ```text
+/// ghost next_gives = { λ old result new. (new.avar.now ≡ old.avar.now)
+///     × (IsSome result ↔ HasSegmentMap old.avar.now old.axis)
+///     × IfSome result (λ map. map.mappings.now ≡ segment_map_bytes old.avar.now old.axis)
+///     × MatchOption result (new.axis ≡ old.axis) (λ _. new.axis ≡ old.axis + 1) };
+/// ghost remaining = { λ maps. at_most (avar_axis_count maps.avar.now - maps.axis) };
+/// ```
+/// [Notation](crate::definitions): [`HasSegmentMap`], [`segment_map_bytes`], [`avar_axis_count`]
+/// </details>
+impl<'a> Iterator for SegmentMaps<'a> {
+    type Item = SegmentMap<'a>;
 
-    /// Returns the mappings of the next axis, as [`segment_map`] does. After a `None`, each further
-    /// call returns `None`.
-    ///
-    /// <details><summary>Contract</summary>
-    ///
-    /// ```text
-    /// ensures variant { IsSome result ↔ HasSegmentMap self.old.avar.now self.old.axis }
-    /// ensures value { IfSome result (λ map.
-    ///     map.now ≡ segment_map_bytes self.old.avar.now self.old.axis) }
-    /// ensures avar { self.new.avar.now ≡ self.old.avar.now }
-    /// ensures axis { MatchOption result (self.new.axis ≡ self.old.axis)
-    ///     (λ _. self.new.axis ≡ self.old.axis + 1) }
-    /// ```
-    /// [Notation](crate::definitions): [`HasSegmentMap`], [`segment_map_bytes`]
-    /// </details>
-    pub fn next_map(&mut self) -> Option<&'a [u8]> {
+    fn next(&mut self) -> Option<SegmentMap<'a>> {
         if self.axis >= u16::read_at(self.avar, 6)? {
             return None;
         }
         let count = usize::from(u16::read_at(self.avar, self.start)?);
-        let map = self.avar.get(self.start + 2..)?.get(..4 * count)?;
+        let mappings = self.avar.get(self.start + 2..)?.get(..4 * count)?;
         *self =
             SegmentMaps { avar: self.avar, axis: self.axis + 1, start: self.start + 2 + 4 * count };
-        Some(map)
+        Some(SegmentMap { mappings })
+    }
+}
+
+impl<'a> FusedIterator for SegmentMaps<'a> {}
+
+impl<'a> Clone for SegmentMaps<'a> {
+    fn clone(&self) -> SegmentMaps<'a> {
+        SegmentMaps { avar: self.avar, axis: self.axis, start: self.start }
+    }
+}
+
+/// The mappings of an axis, by which its coordinates change. A font without `avar` has none:
+/// `SegmentMap::default()`.
+///
+/// The source and its contracts: `crates/variations/src/evaluator.rt`.
+#[derive(Clone, Copy, PartialEq, Eq, Hash, Debug)]
+pub struct SegmentMap<'a> {
+    mappings: &'a [u8],
+}
+
+/// No mappings.
+///
+/// <details><summary>Contract</summary>
+///
+/// ```text
+/// ghost is_default = { λ map. map.mappings.now ≡ [] };
+/// ```
+/// [Notation](crate::definitions)
+/// </details>
+impl<'a> Default for SegmentMap<'a> {
+    fn default() -> SegmentMap<'a> {
+        SegmentMap { mappings: &[] }
+    }
+}
+
+impl<'a> SegmentMap<'a> {
+    /// Maps a coordinate. One below or above all mappings does not change.
+    ///
+    /// <details><summary>Contract</summary>
+    ///
+    /// ```text
+    /// ensures { IsMapped coordinate self.now.mappings.now result }
+    /// ```
+    /// [Notation](crate::definitions): [`IsMapped`]
+    /// </details>
+    #[must_use]
+    pub fn map(&self, coordinate: Fixed) -> Fixed {
+        match segment_end(coordinate, self.mappings) {
+            Some(end) => map_in_segment(coordinate, self.mappings, end),
+            None => coordinate,
+        }
+    }
+
+    /// Maps a coordinate from [`normalize`](VariationAxisRecord::normalize), and then rounds it to 2.14.
+    ///
+    /// <details><summary>Contract</summary>
+    ///
+    /// ```text
+    /// ensures value { IsFinal coordinate self.now.mappings.now result }
+    /// ensures low { f2dot14_bits F2Dot14.NEG_ONE ≤ℤ f2dot14_bits result }
+    /// ensures high { f2dot14_bits result ≤ℤ f2dot14_bits F2Dot14.ONE }
+    /// ```
+    /// [Notation](crate::definitions): [`IsFinal`], [`f2dot14_bits`]
+    /// </details>
+    #[must_use]
+    pub fn final_coordinate(&self, coordinate: Fixed) -> F2Dot14 {
+        to_stored(self.map(coordinate))
     }
 }
 
@@ -369,37 +550,4 @@ fn map_in_segment(coordinate: Fixed, map: &[u8], end: usize) -> Fixed {
     } else {
         lerp(coordinate, read_mapping(map, end - 1), mapping)
     }
-}
-
-/// Maps a coordinate by the mappings of a segment map, the bytes that [`segment_map`] returns. A
-/// coordinate below or above all mappings does not change.
-///
-/// <details><summary>Contract</summary>
-///
-/// ```text
-/// ensures { IsMapped coordinate map.now result }
-/// ```
-/// [Notation](crate::definitions): [`IsMapped`]
-/// </details>
-#[must_use]
-pub fn map_coordinate(coordinate: Fixed, map: &[u8]) -> Fixed {
-    match segment_end(coordinate, map) {
-        Some(end) => map_in_segment(coordinate, map, end),
-        None => coordinate,
-    }
-}
-
-/// Maps a coordinate from [`normalize`] by the mappings of a segment map, and then rounds it to
-/// 2.14. A font without `avar` has no mappings: `&[]`.
-///
-/// <details><summary>Contract</summary>
-///
-/// ```text
-/// ensures { IsFinal coordinate map.now result }
-/// ```
-/// [Notation](crate::definitions): [`IsFinal`]
-/// </details>
-#[must_use]
-pub fn final_coordinate(coordinate: Fixed, map: &[u8]) -> F2Dot14 {
-    to_stored(map_coordinate(coordinate, map))
 }

@@ -8,41 +8,111 @@ use crate::definitions::font_fixed::{F48Dot16_antt::f48dot16_bits, Fixed_antt::f
 use crate::definitions::font_ids::FWord_antt::ufword_number;
 #[cfg(doc)]
 use crate::definitions::variations::{
-    Advances_antt::{HasData, HasRegionList, HasTarget, regions_of, subtable_of},
+    Advances_antt::{HasData, HasRegionList, regions_of, subtable_of},
     Variations_antt::{
-        AreScalars, HasNoVaried, HasRegion, HasSet, IsNearAdvance, IsNearSetSum, IsNoVariation,
-        IsRegionScalar, IsSetSum, IsVaried, region_count,
+        AreScalars, HasNoVaried, HasRegion, HasSet, IsNearAdvance, IsNearRegionScalar,
+        IsNearSetSum, IsNoVariation, IsRegionScalar, IsSetSum, IsVaried, region_count,
     },
 };
 
 use super::advances::{at_offset, data_of};
 use super::delta_sets::{column_in, row_of};
-use super::maps::{DeltaSetIndex, is_no_variation};
+use super::maps::DeltaSetIndex;
 use super::regions::region_scalars;
 use font_types_proved::{F2Dot14, F48Dot16, Fixed, Scalar, UfWord};
 
-/// Returns the count that the list of regions of a store has, or `None` if the store has no list
-/// or the list ends before its count. [`StoreInstance::new`] needs at most as many scalars.
+/// An item variation store of format 1, as of `HVAR`, `MVAR`, `VVAR`, `COLR` and `GDEF`.
+///
+/// The source and its contracts: `crates/variations/src/instances.rt`.
 ///
 /// <details><summary>Contract</summary>
 ///
 /// ```text
-/// ensures variant { IsSome result
-///     ↔ (HasTarget store.now 2 × (4 ≤ length (regions_of store.now))) }
-/// ensures value { IfSome result (λ count. count ≡ region_count (regions_of store.now)) }
-/// ensures enough { IfSome result (λ count. (region : ℕ)
-///     → HasRegion (regions_of store.now) region → region < count) }
+/// ghost list: { HasRegionList bytes.now },
 /// ```
-/// [Notation](crate::definitions): [`HasTarget`], [`regions_of`], [`mod@region_count`], [`HasRegion`]
+/// [Notation](crate::definitions): [`HasRegionList`]
 /// </details>
-#[must_use]
-pub fn region_count(store: &[u8]) -> Option<u16> {
+#[derive(Clone, Copy, Debug)]
+pub struct ItemVariationStore<'a> {
+    bytes: &'a [u8],
+}
+
+impl<'a> ItemVariationStore<'a> {
+    /// Returns the store that begins at these bytes, or `None` if its format is not 1, or it has no
+    /// list of regions.
+    ///
+    /// <details><summary>Contract</summary>
+    ///
+    /// ```text
+    /// ensures variant { IsSome result ↔ HasRegionList bytes.now }
+    /// ensures bytes { IfSome result (λ store. store.bytes.now ≡ bytes.now) }
+    /// ```
+    /// [Notation](crate::definitions): [`HasRegionList`]
+    /// </details>
+    #[must_use]
+    pub fn new(bytes: &'a [u8]) -> Option<ItemVariationStore<'a>> {
+        if u16::read_at(bytes, 0)? != 1 {
+            return None;
+        }
+        let _ = at_offset(bytes, 2)?;
+        Some(ItemVariationStore { bytes })
+    }
+
+    /// Returns the count that the list of regions has, or 0 if the list ends before it.
+    /// [`at`](ItemVariationStore::at) needs at most as many scalars.
+    ///
+    /// <details><summary>Contract</summary>
+    ///
+    /// ```text
+    /// ensures value { 4 ≤ length (regions_of self.now.bytes.now)
+    ///     → result ≡ region_count (regions_of self.now.bytes.now) }
+    /// ensures enough { (region : ℕ)
+    ///     → HasRegion (regions_of self.now.bytes.now) region → region < result }
+    /// ```
+    /// [Notation](crate::definitions): [`regions_of`], [`mod@region_count`], [`HasRegion`]
+    /// </details>
+    #[must_use]
+    pub fn region_count(&self) -> u16 {
+        read_region_count(self.bytes).unwrap_or(0)
+    }
+
+    /// Computes the scalars of all regions at these coordinates into the first places of `scalars`,
+    /// and keeps the rest. Returns `None` if there are more regions than `scalars` holds; then
+    /// `scalars` is as before.
+    ///
+    /// <details><summary>Contract</summary>
+    ///
+    /// ```text
+    /// ensures variant { IsSome result
+    ///     ↔ (¬ HasRegion (regions_of self.now.bytes.now) (length scalars.old)) }
+    /// ensures store { IfSome result (λ instance.
+    ///     instance.store.now ≡ self.now.bytes.now) }
+    /// ensures coordinates { IfSome result (λ instance.
+    ///     instance.coordinates.now ≡ coordinates.now) }
+    /// ```
+    /// [Notation](crate::definitions): [`HasRegion`], [`regions_of`]
+    /// </details>
+    #[must_use]
+    pub fn at(
+        &self,
+        coordinates: &'a [F2Dot14],
+        scalars: &'a mut [Fixed],
+    ) -> Option<StoreInstance<'a>> {
+        let count = write_scalars(self.bytes, coordinates, scalars)?;
+        let scalars: &'a [Fixed] = scalars;
+        let scalars = scalars.get(..count)?;
+        Some(StoreInstance { store: self.bytes, coordinates, scalars })
+    }
+}
+
+// Reads the count that the list of regions of a store has.
+fn read_region_count(store: &[u8]) -> Option<u16> {
     u16::read_at(at_offset(store, 2)?, 2)
 }
 
 // Writes the scalars of the regions of a store to the first places of `scalars`, and returns their
-// number. For `StoreInstance::new`, whose contract cannot name what its buffer becomes, because the
-// instance keeps it.
+// number. For `ItemVariationStore::at`, whose contract cannot name what its buffer becomes, because
+// the instance keeps it.
 fn write_scalars(store: &[u8], coordinates: &[F2Dot14], scalars: &mut [Fixed]) -> Option<usize> {
     if u16::read_at(store, 0)? != 1 {
         return None;
@@ -50,11 +120,11 @@ fn write_scalars(store: &[u8], coordinates: &[F2Dot14], scalars: &mut [Fixed]) -
     region_scalars(at_offset(store, 2)?, coordinates, scalars)
 }
 
-/// An item variation store at the coordinates of an instance, with the scalar of each region. It
-/// answers as [`varied_by`](crate::advances::varied_by) does at these coordinates.
+/// An item variation store at the coordinates of an instance, with the scalar of each region.
 ///
-/// `new` walks each axis of each region once. Its time is linear in the bytes of the store and the
-/// number of its regions, which is at most 32,767. After that a delta of a set takes one product.
+/// [`at`](ItemVariationStore::at) walks each axis of each region once. Its time is linear in the
+/// bytes of the store and the number of its regions, which is at most 32,767. After that a delta of
+/// a set takes one product.
 ///
 /// So the advances of all glyphs take at most as many products as the number of glyphs times the
 /// greatest number of columns. The columns of a set are fewer than a third of the bytes of the
@@ -78,33 +148,6 @@ pub struct StoreInstance<'a> {
 }
 
 impl<'a> StoreInstance<'a> {
-    /// Computes the scalars of all regions of a store into the first places of `scalars`, and keeps
-    /// the rest. Returns `None` if the store is not of format 1, if it has no list of regions, or
-    /// if it has more regions than `scalars` holds; then `scalars` is as before.
-    ///
-    /// <details><summary>Contract</summary>
-    ///
-    /// ```text
-    /// ensures variant { IsSome result ↔ (HasRegionList store.now
-    ///     × (¬ HasRegion (regions_of store.now) (length scalars.old))) }
-    /// ensures store { IfSome result (λ instance. instance.store.now ≡ store.now) }
-    /// ensures coordinates { IfSome result (λ instance.
-    ///     instance.coordinates.now ≡ coordinates.now) }
-    /// ```
-    /// [Notation](crate::definitions): [`HasRegionList`], [`HasRegion`], [`regions_of`]
-    /// </details>
-    #[must_use]
-    pub fn new(
-        store: &'a [u8],
-        coordinates: &'a [F2Dot14],
-        scalars: &'a mut [Fixed],
-    ) -> Option<StoreInstance<'a>> {
-        let count = write_scalars(store, coordinates, scalars)?;
-        let scalars: &'a [Fixed] = scalars;
-        let scalars = scalars.get(..count)?;
-        Some(StoreInstance { store, coordinates, scalars })
-    }
-
     /// Returns the coordinates.
     ///
     /// <details><summary>Contract</summary>
@@ -119,7 +162,10 @@ impl<'a> StoreInstance<'a> {
         self.coordinates
     }
 
-    /// Returns the scalar of a region, as [`region_scalar`](crate::regions::region_scalar) does.
+    /// Returns the scalar of a region, the product of those of its axes, from 0 to 1, or `None` if
+    /// the store does not have the region. Axes beyond the coordinates are at their default.
+    ///
+    /// The product is rounded once for each axis, in the order of the axes, half up.
     ///
     /// <details><summary>Contract</summary>
     ///
@@ -127,10 +173,12 @@ impl<'a> StoreInstance<'a> {
     /// ensures variant { IsSome result ↔ HasRegion (regions_of self.now.store.now) region }
     /// ensures value { IfSome result (λ scalar. IsRegionScalar (regions_of self.now.store.now)
     ///     region self.now.coordinates.now (fixed_bits scalar)) }
+    /// ensures near { IfSome result (λ scalar. IsNearRegionScalar
+    ///     (regions_of self.now.store.now) region self.now.coordinates.now (fixed_bits scalar)) }
     /// ensures low { IfSome result (λ scalar. pos 0 ≤ℤ fixed_bits scalar) }
     /// ensures high { IfSome result (λ scalar. fixed_bits scalar ≤ℤ fixed_bits Fixed.ONE) }
     /// ```
-    /// [Notation](crate::definitions): [`HasRegion`], [`regions_of`], [`IsRegionScalar`], [`fixed_bits`]
+    /// [Notation](crate::definitions): [`HasRegion`], [`regions_of`], [`IsRegionScalar`], [`fixed_bits`], [`IsNearRegionScalar`]
     /// </details>
     #[must_use]
     pub fn scalar(&self, region: u16) -> Option<Fixed> {
@@ -190,7 +238,7 @@ impl<'a> StoreInstance<'a> {
     /// </details>
     #[must_use]
     pub fn delta(&self, set: DeltaSetIndex) -> Option<F48Dot16> {
-        if is_no_variation(set) {
+        if set.is_no_variation() {
             return Some(F48Dot16::ZERO);
         }
         let (_, subtable, inner) = data_of(self.store, set)?;
@@ -198,12 +246,13 @@ impl<'a> StoreInstance<'a> {
     }
 
     // Adds the sum of a set to an advance and rounds once.
-    fn vary(&self, advance: UfWord, subtable: &[u8], set: u16) -> Option<UfWord> {
+    fn vary_set(&self, advance: UfWord, subtable: &[u8], set: u16) -> Option<UfWord> {
         advance.checked_add_delta(self.sum(subtable, set)?)
     }
 
-    /// Varies an advance by a set, as [`varied_by`](crate::advances::varied_by) does at these
-    /// coordinates.
+    /// Varies an advance by a set, and rounds it once, half up. The set without variation data does
+    /// not change the advance. Returns `None` if the store does not have the set, or the result is
+    /// out of range.
     ///
     /// <details><summary>Contract</summary>
     ///
@@ -227,11 +276,11 @@ impl<'a> StoreInstance<'a> {
     /// [Notation](crate::definitions): [`IsNoVariation`], [`HasData`], [`HasNoVaried`], [`regions_of`], [`subtable_of`], [`ufword_number`], [`HasSet`], [`IsVaried`], [`IsNearAdvance`]
     /// </details>
     #[must_use]
-    pub fn varied(&self, advance: UfWord, set: DeltaSetIndex) -> Option<UfWord> {
-        if is_no_variation(set) {
+    pub fn vary(&self, advance: UfWord, set: DeltaSetIndex) -> Option<UfWord> {
+        if set.is_no_variation() {
             return Some(advance);
         }
         let (_, subtable, inner) = data_of(self.store, set)?;
-        self.vary(advance, subtable, inner)
+        self.vary_set(advance, subtable, inner)
     }
 }

@@ -4,7 +4,7 @@
 
 #[cfg(doc)]
 use crate::definitions::variations::Variations_antt::{
-    HasEntry, IsNoVariation, entry_of, inner_bits,
+    HasEntry, IsNoVariation, entry_of, inner_bits, map_format,
 };
 
 use font_types_proved::{Scalar, Uint24};
@@ -12,7 +12,7 @@ use font_types_proved::{Scalar, Uint24};
 /// The indices of a delta set: of a subtable, and in it.
 ///
 /// The source and its contracts: `crates/variations/src/maps.rt`.
-#[derive(Clone, Copy, PartialEq, Debug)]
+#[derive(Clone, Copy, PartialEq, Eq, Hash, Debug)]
 pub struct DeltaSetIndex {
     /// The index of the subtable in the store.
     pub outer: u32,
@@ -21,6 +21,9 @@ pub struct DeltaSetIndex {
 }
 
 impl DeltaSetIndex {
+    /// The indices of an item without variation data.
+    pub const NO_VARIATION: DeltaSetIndex = DeltaSetIndex { outer: 0xFFFF, inner: 0xFFFF };
+
     /// Returns the indices that 32 bits hold, the outer one in the high half, as in `COLR`, `MVAR`
     /// and a `VariationIndex` table.
     ///
@@ -40,20 +43,67 @@ impl DeltaSetIndex {
     pub fn from_u32(index: u32) -> DeltaSetIndex {
         split_entry(index, 16)
     }
+
+    /// Returns whether the indices are those of an item without variation data.
+    ///
+    /// <details><summary>Contract</summary>
+    ///
+    /// ```text
+    /// ensures { IsTrue result ↔ IsNoVariation self.now.outer self.now.inner }
+    /// ```
+    /// [Notation](crate::definitions): [`IsNoVariation`]
+    /// </details>
+    #[must_use]
+    pub fn is_no_variation(&self) -> bool {
+        self.outer == 0xFFFF && self.inner == 0xFFFF
+    }
 }
 
-/// Returns whether the indices are those of an item without variation data.
+/// A map from indices to delta sets, as of `HVAR`, `VVAR` and `COLR`.
 ///
-/// <details><summary>Contract</summary>
-///
-/// ```text
-/// ensures { IsTrue result ↔ IsNoVariation set.outer set.inner }
-/// ```
-/// [Notation](crate::definitions): [`IsNoVariation`]
-/// </details>
-#[must_use]
-pub fn is_no_variation(set: DeltaSetIndex) -> bool {
-    set.outer == 0xFFFF && set.inner == 0xFFFF
+/// The source and its contracts: `crates/variations/src/maps.rt`.
+#[derive(Clone, Copy, PartialEq, Eq, Hash, Debug)]
+pub struct DeltaSetIndexMap<'a> {
+    bytes: &'a [u8],
+}
+
+impl<'a> DeltaSetIndexMap<'a> {
+    /// Returns the map that begins at these bytes, or `None` if its format is neither 0 nor 1.
+    ///
+    /// <details><summary>Contract</summary>
+    ///
+    /// ```text
+    /// ensures variant { IsSome result ↔ ((0 < length bytes.now) × (map_format bytes.now ≤ 1)) }
+    /// ensures bytes { IfSome result (λ map. map.bytes.now ≡ bytes.now) }
+    /// ```
+    /// [Notation](crate::definitions): [`map_format`]
+    /// </details>
+    #[must_use]
+    pub fn new(bytes: &'a [u8]) -> Option<DeltaSetIndexMap<'a>> {
+        if u8::read_at(bytes, 0)? > 1 {
+            return None;
+        }
+        Some(DeltaSetIndexMap { bytes })
+    }
+
+    /// Returns the delta set of an index; the last entry is that of all later indices. Returns
+    /// `None` if the map has no entries, or ends before the entry does.
+    ///
+    /// <details><summary>Contract</summary>
+    ///
+    /// ```text
+    /// ensures variant { IsSome result ↔ HasEntry self.now.bytes.now index }
+    /// ensures outer { IfSome result (λ set. set.outer
+    ///     ≡ entry_of self.now.bytes.now index / 2 ^ inner_bits self.now.bytes.now) }
+    /// ensures inner { IfSome result (λ set. set.inner
+    ///     ≡ entry_of self.now.bytes.now index % 2 ^ inner_bits self.now.bytes.now) }
+    /// ```
+    /// [Notation](crate::definitions): [`HasEntry`], [`entry_of`], [`inner_bits`]
+    /// </details>
+    #[must_use]
+    pub fn get(&self, index: u32) -> Option<DeltaSetIndex> {
+        read_delta_set_index(self.bytes, index)
+    }
 }
 
 // The parts of a map's entry format.
@@ -61,23 +111,10 @@ const INNER_INDEX_BIT_COUNT_MASK: u8 = 0x0F;
 
 const MAP_ENTRY_SIZE_MASK: u8 = 0x30;
 
-/// Reads the delta set of an index by a map of format 0 or 1; the last entry is that of all later
-/// indices. Returns `None` for another format or a map of no entries, or if the map ends before the
-/// entry does.
-///
-/// <details><summary>Contract</summary>
-///
-/// ```text
-/// ensures variant { IsSome result ↔ HasEntry map.now index }
-/// ensures outer { IfSome result (λ set.
-///     set.outer ≡ entry_of map.now index / 2 ^ inner_bits map.now) }
-/// ensures inner { IfSome result (λ set.
-///     set.inner ≡ entry_of map.now index % 2 ^ inner_bits map.now) }
-/// ```
-/// [Notation](crate::definitions): [`HasEntry`], [`entry_of`], [`inner_bits`]
-/// </details>
-#[must_use]
-pub fn read_delta_set_index(map: &[u8], index: u32) -> Option<DeltaSetIndex> {
+// Reads the delta set of an index by a map of format 0 or 1; the last entry is that of all later
+// indices. Returns `None` for another format or a map of no entries, or if the map ends before the
+// entry does.
+pub(crate) fn read_delta_set_index(map: &[u8], index: u32) -> Option<DeltaSetIndex> {
     let (count, start) = match u8::read_at(map, 0)? {
         0 => (u32::from(u16::read_at(map, 2)?), 4),
         1 => (u32::read_at(map, 2)?, 6),

@@ -5,16 +5,14 @@
 #[cfg(doc)]
 use crate::definitions::font_fixed::{F2Dot14_antt::f2dot14_bits, Fixed_antt::fixed_bits};
 #[cfg(doc)]
-use crate::definitions::variations::Variations_antt::{
-    AreScalars, HasRegion, IsAxisScalar, IsIgnored, IsNearRegionScalar, IsRegionScalar,
-};
+use crate::definitions::variations::Variations_antt::{AreScalars, HasRegion, IsAxisScalar};
 
 use font_types_proved::{F2Dot14, Fixed, Scalar};
 
 /// The extent of a region along one axis.
 ///
 /// The source and its contracts: `crates/variations/src/regions.rt`.
-#[derive(Clone, Copy, PartialEq, Debug)]
+#[derive(Clone, Copy, PartialEq, Eq, Hash, Debug)]
 pub struct RegionAxisCoordinates {
     /// Where the region starts.
     pub start_coord: F2Dot14,
@@ -24,41 +22,35 @@ pub struct RegionAxisCoordinates {
     pub end_coord: F2Dot14,
 }
 
-/// Returns whether an axis is ignored in a region: its coordinates are out of order or on both
-/// sides of zero, or the peak is zero.
-///
-/// <details><summary>Contract</summary>
-///
-/// ```text
-/// ensures { IsTrue result ↔ IsIgnored (f2dot14_bits axis.start_coord)
-///     (f2dot14_bits axis.peak_coord) (f2dot14_bits axis.end_coord) }
-/// ```
-/// [Notation](crate::definitions): [`IsIgnored`], [`f2dot14_bits`]
-/// </details>
-#[must_use]
-pub fn is_ignored(axis: RegionAxisCoordinates) -> bool {
+impl RegionAxisCoordinates {
+    /// Returns the scalar along the axis at a coordinate, from 0 to 1: 1 if the axis is ignored,
+    /// because its coordinates are out of order or on both sides of zero, or the peak is zero.
+    ///
+    /// <details><summary>Contract</summary>
+    ///
+    /// ```text
+    /// ensures value { IsAxisScalar (f2dot14_bits self.now.start_coord)
+    ///     (f2dot14_bits self.now.peak_coord) (f2dot14_bits self.now.end_coord)
+    ///     (f2dot14_bits coordinate) (fixed_bits result) }
+    /// ensures low { pos 0 ≤ℤ fixed_bits result }
+    /// ensures high { fixed_bits result ≤ℤ fixed_bits Fixed.ONE }
+    /// ```
+    /// [Notation](crate::definitions): [`IsAxisScalar`], [`f2dot14_bits`], [`fixed_bits`]
+    /// </details>
+    #[must_use]
+    pub fn scalar(&self, coordinate: F2Dot14) -> Fixed {
+        scaled(Fixed::ONE, *self, coordinate)
+    }
+}
+
+// Returns whether an axis is ignored in a region: its coordinates are out of order or on both sides
+// of zero, or the peak is zero.
+fn is_ignored(axis: RegionAxisCoordinates) -> bool {
     let zero = F2Dot14::ZERO;
     axis.peak_coord < axis.start_coord
         || axis.end_coord < axis.peak_coord
         || (axis.start_coord < zero && zero < axis.end_coord)
         || axis.peak_coord == zero
-}
-
-/// Returns the scalar of a region along one axis, from 0 to 1.
-///
-/// <details><summary>Contract</summary>
-///
-/// ```text
-/// ensures value { IsAxisScalar (f2dot14_bits axis.start_coord) (f2dot14_bits axis.peak_coord)
-///     (f2dot14_bits axis.end_coord) (f2dot14_bits coordinate) (fixed_bits result) }
-/// ensures low { pos 0 ≤ℤ fixed_bits result }
-/// ensures high { fixed_bits result ≤ℤ fixed_bits Fixed.ONE }
-/// ```
-/// [Notation](crate::definitions): [`IsAxisScalar`], [`f2dot14_bits`], [`fixed_bits`]
-/// </details>
-#[must_use]
-pub fn axis_scalar(axis: RegionAxisCoordinates, coordinate: F2Dot14) -> Fixed {
-    scaled(Fixed::ONE, axis, coordinate)
 }
 
 // Multiplies a scalar by that of a region along one axis, and rounds once.
@@ -136,26 +128,11 @@ fn find_region(regions: &[u8], region: u16) -> Option<&[u8]> {
     rest.get(..6 * usize::from(axes))
 }
 
-/// Returns the scalar of a region, the product of those of its axes, from 0 to 1, or `None` if the
-/// list does not have the region. Axes beyond the coordinates are at their default.
-///
-/// The product is rounded once for each axis, in the order of the axes, half up.
-///
-/// <details><summary>Contract</summary>
-///
-/// ```text
-/// ensures variant { IsSome result ↔ HasRegion regions.now region }
-/// ensures value { IfSome result (λ scalar.
-///     IsRegionScalar regions.now region coordinates.now (fixed_bits scalar)) }
-/// ensures near { IfSome result (λ scalar.
-///     IsNearRegionScalar regions.now region coordinates.now (fixed_bits scalar)) }
-/// ensures low { IfSome result (λ scalar. pos 0 ≤ℤ fixed_bits scalar) }
-/// ensures high { IfSome result (λ scalar. fixed_bits scalar ≤ℤ fixed_bits Fixed.ONE) }
-/// ```
-/// [Notation](crate::definitions): [`HasRegion`], [`IsRegionScalar`], [`fixed_bits`], [`IsNearRegionScalar`]
-/// </details>
-#[must_use]
-pub fn region_scalar(regions: &[u8], region: u16, coordinates: &[F2Dot14]) -> Option<Fixed> {
+// Returns the scalar of a region, the product of those of its axes, from 0 to 1, or `None` if the
+// list does not have the region. Axes beyond the coordinates are at their default.
+//
+// The product is rounded once for each axis, in the order of the axes, half up.
+fn region_scalar(regions: &[u8], region: u16, coordinates: &[F2Dot14]) -> Option<Fixed> {
     let region = find_region(regions, region)?;
     let axes = u16::read_at(regions, 0)?;
     Some(product_of_scalars(region, axes, coordinates))

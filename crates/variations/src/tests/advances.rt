@@ -1,8 +1,8 @@
 //! Tables `HVAR`: stores, sets and offsets.
 
-use crate::advances::{store_and_set, varied_by};
-use crate::maps::DeltaSetIndex;
-use font_types::{F2Dot14, GlyphId16, Scalar, UfWord};
+use crate::{DeltaSetIndex, Hvar, ItemVariationStore};
+use font_types::{F2Dot14, Fixed, GlyphId16, Scalar, UfWord};
+use std::test::Fail;
 
 // A table: its header of 20 bytes; a map of two entries of two bytes, with eight bits of the inner
 // index, at 20; and a store at 28.
@@ -21,38 +21,69 @@ fn with(number: u32, offset: usize) -> [u8; 62] {
     table
 }
 
-#[test]
-fn sets_of_glyphs(rt: HostRuntime) {
-    for &(glyph, outer, inner) in &[(0, 0, 1), (1, 0, 0), (2, 0, 0), (0xFFFF, 0, 0)] {
-        let set = DeltaSetIndex { outer, inner };
-        let found = store_and_set(&HVAR, GlyphId16::new(glyph));
-        assert!(rt; found == Some((&HVAR[28..], set)), "{glyph}");
-        // Without a map.
-        let unmapped = with(0, 8);
-        let inner = u32::from(glyph);
-        let set = DeltaSetIndex { outer, inner };
-        let found = store_and_set(&unmapped, GlyphId16::new(glyph));
-        assert!(rt; found == Some((&unmapped[28..], set)), "{glyph} unmapped");
-    }
-    // A null offset, one of the end, and one past it; of the store, and of the map.
-    for &(number, offset, is_there) in &[
-        (0, 4, false),
-        (62, 4, true),
-        (63, 4, false),
-        (0, 8, true),
-        (62, 8, false),
-        (63, 8, false),
-    ] {
-        let table = with(number, offset);
-        let found = store_and_set(&table, GlyphId16::new(0));
-        assert!(rt; found.is_some() == is_there, "{number} at {offset}");
-    }
+// The set of a glyph.
+fn set_of(table: &[u8], glyph: u16) -> Option<DeltaSetIndex> {
+    Hvar::new(table)?.advance_set(GlyphId16::new(glyph))
+}
+
+// The advance 500, varied by the first set of a store.
+fn varied(store: &[u8], coordinates: &[F2Dot14], scalars: &mut [Fixed]) -> Option<UfWord> {
+    let instance = ItemVariationStore::new(store)?.at(coordinates, scalars)?;
+    instance.vary(UfWord::new(500), DeltaSetIndex { outer: 0, inner: 0 })
 }
 
 #[test]
-fn advances_by_sets(rt: HostRuntime) {
-    let (store, advance) = (&HVAR[28..], UfWord::new(500));
-    let coordinates = [F2Dot14::from_bits(0x2000)];
+fn sets_of_glyphs(rt: HostRuntime) {
+    // The same table without a map.
+    let unmapped = with(0, 8);
+    for &(glyph, outer, inner) in &[(0, 0, 1), (1, 0, 0), (2, 0, 0), (0xFFFF, 0, 0)] {
+        let set = |table| Hvar::new(table)?.advance_set(GlyphId16::new(glyph));
+        assert!(rt;
+            set(&HVAR) == Some(DeltaSetIndex { outer, inner }),
+            "{glyph}"
+        );
+        let inner = u32::from(glyph);
+        let outer = 0;
+        assert!(rt;
+            set(&unmapped) == Some(DeltaSetIndex { outer, inner }),
+            "{glyph} unmapped"
+        );
+    }
+    // A null offset of the store, one of a place with a store, and two past one: the last is of the
+    // end. Then of the map: null, the end, and one past it.
+    for &(number, offset, is_table, is_set) in &[
+        (0, 4, false, false),
+        (28, 4, true, true),
+        (27, 4, false, false),
+        (62, 4, false, false),
+        (63, 4, false, false),
+        (0, 8, true, true),
+        (62, 8, true, false),
+        (63, 8, true, false),
+        // Of another major version, and of a later minor one.
+        (0x0002_0000, 0, false, false),
+        (0, 0, false, false),
+        (0x0001_0001, 0, true, true),
+    ] {
+        let table = with(number, offset);
+        assert!(rt;
+            Hvar::new(&table).is_some() == is_table,
+            "{number} at {offset}"
+        );
+        assert!(rt;
+            set_of(&table, 0).is_some() == is_set,
+            "a set of {number} at {offset}"
+        );
+    }
+    assert!(rt; Hvar::new(&HVAR[..19]).is_none());
+}
+
+#[test]
+fn advances_by_sets(rt: HostRuntime) -> Result<(), Fail> {
+    let (store, advance) = (Hvar::new(&HVAR).ok_or("a table")?.store(), UfWord::new(500));
+    let (coordinates, mut scalars) = ([F2Dot14::from_bits(0x2000)], [Fixed::ZERO]);
+    assert!(rt; store.region_count() == 1);
+    let instance = store.at(&coordinates, &mut scalars).ok_or("one region")?;
     for &(outer, inner, varied) in &[
         (0, 0, Some(520)),
         (0, 1, Some(480)),
@@ -61,22 +92,23 @@ fn advances_by_sets(rt: HostRuntime) {
         (0, 0x1_0000, None),
         (0xFFFF, 0xFFFF, Some(500)),
     ] {
-        let set = DeltaSetIndex { outer, inner };
-        let found = varied_by(advance, store, set, &coordinates);
+        let found = instance.vary(advance, DeltaSetIndex { outer, inner });
         assert!(rt; found == varied.map(UfWord::new), "{outer} {inner}");
     }
-    let set = DeltaSetIndex { outer: 0, inner: 0 };
-    for &(number, offset) in &[
+    for &(number, offset, is_store) in &[
         // Another format, no list of regions, a subtable less, one more, and none at its offset.
-        (0x0002_0000, 28),
-        (0, 30),
-        (0x000C_0000, 32),
-        (0x000C_FFFF, 32),
-        (0, 36),
-        (0xFFFF, 36),
+        (0x0002_0000, 28, false),
+        (0, 30, false),
+        (0x000C_0000, 32, true),
+        (0x000C_FFFF, 32, true),
+        (0, 36, true),
+        (0xFFFF, 36, true),
     ] {
-        let changed = with(number, offset);
-        let found = varied_by(advance, &changed[28..], set, &coordinates);
+        let (changed, mut scalars) = (with(number, offset), [Fixed::ZERO]);
+        let store = ItemVariationStore::new(&changed[28..]);
+        assert!(rt; store.is_some() == is_store, "{number} at {offset}");
+        let found = varied(&changed[28..], &coordinates, &mut scalars);
         assert!(rt; found.is_none(), "{number} at {offset}");
     }
+    Ok(())
 }
