@@ -9,18 +9,14 @@ ghost use Rattle.variations.specs.Advances.{IsHvar};
 
 use crate::instances::ItemVariationStore;
 use crate::maps::{DeltaSetIndex, read_delta_set_index};
-use font_types::{GlyphId16, Scalar};
+use font_types::{GlyphId16, Offset32, OffsetValue, Scalar};
 
 // Returns the bytes from where an offset points, or `None` if it is null or points past the end.
 pub(crate) fn at_offset(table: &[u8], place: usize) -> Option<&[u8]>
     ensures variant { IsSome result ↔ HasTarget table.now place }
     ensures value { IfSome result (λ target. target.now ≡ target_of table.now place) }
 {
-    let offset = u32::read_at(table, place)?;
-    if offset == 0 {
-        return None;
-    }
-    table.get(offset as usize..)
+    Offset32::read_at(table, place)?.follow(table)
 }
 
 // Reads the delta set of a glyph: in a table without a map, the set whose index is the glyph.
