@@ -127,10 +127,10 @@ fn ends_of_checked_calls() {
             Point::new(f(1), Fixed::MAX).checked_add(Point::new(f(3), f(4))));
         (Point::new(f(1), f(2)).checked_sub(Point::new(f(3), f(5))), Point::new(f(-2), f(-3)),
             Point::new(Fixed::MIN, f(2)).checked_sub(Point::new(f(3), f(5))));
-        (Matrix::from_elements([2, 3, 5, 7, 11, 13].map(f)).checked_image(
+        (Matrix::from_elements([2, 3, 5, 7, 11, 13].map(f)).checked_transform_point(
             Point::new(g(1 << 16), g(1 << 17))), Point::new(g(23), g(30)),
             Matrix::from_elements([2, 3, 5, 7, i32::MAX, 13].map(f))
-                .checked_image(Point::new(g(1 << 16), g(1 << 17))));
+                .checked_transform_point(Point::new(g(1 << 16), g(1 << 17))));
     }
     assert_eq!([h(0x2000).to_fixed(), F2Dot30::from_fixed(f(3)).to_fixed()], [f(1), f(3)]);
 }

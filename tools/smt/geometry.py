@@ -98,7 +98,7 @@ for i, axis in enumerate("xy"):
 case("Matrix::checked_transform", given, "?u64",
      f"{matrix('a')}.checked_transform({FROM}).map(|(x, y)| Point::new(x, y)).map(|it| {BOTH})",
      lambda p, *v: some(all_fit(*moved(p, *v)), two(*moved(p, *v))))
-case("Matrix::checked_image", given, "?u64", f"{matrix('a')}.checked_image(Point::new("
+case("Matrix::checked_transform_point", given, "?u64", f"{matrix('a')}.checked_transform_point(Point::new("
      f"F26Dot6::from_bits(x), F26Dot6::from_bits(y))).map(|it| {BOTH})",
      lambda p, *v: some(all_fit(*moved(p, *v)), two(*moved(p, *v))))
 given = entries("a") + ", " + entries("b")

@@ -215,10 +215,10 @@ impl Matrix<Fixed> {
     /// let matrix = Matrix { xx, dx, ..Matrix::identity() };
     /// let pixels = Point::new(F26Dot6::from_i32(10), F26Dot6::ZERO);
     /// let moved = Point::new(F26Dot6::from_i32(6), F26Dot6::ZERO);
-    /// assert_eq!(matrix.checked_image(pixels), Some(moved));
+    /// assert_eq!(matrix.checked_transform_point(pixels), Some(moved));
     /// ```
     // #[doc(alias = "FT_Vector_Transform")]
-    pub const fn checked_image<const F: u32>(
+    pub const fn checked_transform_point<const F: u32>(
         self,
         point: Point<FixedI32<F>>,
     ) -> Option<Point<FixedI32<F>>>

@@ -1,7 +1,7 @@
 use Rattle.std.proofs.Common.{refl, rules}
 use Rattle.font_geom.specs.FixedMatrix.{matrix_bits}
 use Rattle.font_geom.proofs.Bounds.{same_fits}
-use Rattle.font_geom.proofs.matrix.Matrix+Fixed.checked_image.Goals as goal
+use Rattle.font_geom.proofs.matrix.Matrix+Fixed.checked_transform_point.Goals as goal
 
 pub returns-in-Some-clause-variant : goal.returns-in-Some-clause-variant
 returns-in-Some-clause-variant g c =
