@@ -624,8 +624,8 @@ fn scales() {
     }
     assert_eq!([Scale::new(F26Dot6::ONE, 0), Scale::new(F26Dot6::MAX, 1)], [None; 2]);
     let scale = Scale::from_factor(Fixed::from_bits(0x1_8000));
-    let found = scale.checked_apply_point(Point::new(3, -3)).map(|it| it.map(F26Dot6::to_bits));
-    assert_eq!((found, scale.checked_apply(i32::MAX)), (Some(Point::new(5, -5)), None));
+    let found = scale.checked_apply_point_i32(Point::new(3, -3)).map(|it| it.map(F26Dot6::to_bits));
+    assert_eq!((found, scale.checked_apply_i32(i32::MAX)), (Some(Point::new(5, -5)), None));
     let pixels = laws::scaled(F26Dot6::from_bits(768), 1000, 700, -250);
     assert_eq!(pixels.map(|(x, y)| [x, y].map(F26Dot6::to_bits)), Some([538, -192]));
     const HALF: Option<Scale> = Scale::new(F26Dot6::from_bits(512), 1024);

@@ -135,14 +135,14 @@ case("Scale::from_factor", "s: i32", "i32", f"{SCALE}.factor().to_bits()", lambd
 relation("Scale::apply", "x: i16, s: i32", "i32", f"{SCALE}.apply(x).to_bits()",
          lambda p, x, s, result: z3.And(
              fits(32, pixels(p, x, s)), result == wrap(32, pixels(p, x, s))))
-case("Scale::checked_apply", "x: i32, s: i32", "?i32",
-     f"{SCALE}.checked_apply(x).map(F26Dot6::to_bits)",
+case("Scale::checked_apply_i32", "x: i32, s: i32", "?i32",
+     f"{SCALE}.checked_apply_i32(x).map(F26Dot6::to_bits)",
      lambda p, x, s: checked(32, pixels(p, x, s)))
 case("Scale::apply_point", "x: i16, y: i16, s: i32", "u64",
      f"{{ let it = {SCALE}.apply_point(Point::new(x, y)); {BOTH} }}",
      lambda p, x, y, s: two(pixels(p, x, s), pixels(p, y, s)))
-case("Scale::checked_apply_point", "x: i32, y: i32, s: i32", "?u64",
-     f"{SCALE}.checked_apply_point(Point::new(x, y)).map(|it| {BOTH})",
+case("Scale::checked_apply_point_i32", "x: i32, y: i32, s: i32", "?u64",
+     f"{SCALE}.checked_apply_point_i32(Point::new(x, y)).map(|it| {BOTH})",
      lambda p, x, y, s: some(all_fit(pixels(p, x, s), pixels(p, y, s)),
                              two(pixels(p, x, s), pixels(p, y, s))))
 

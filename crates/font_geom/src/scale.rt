@@ -71,9 +71,9 @@ impl Scale {
     }
 
     /// Scales a number of font units, or returns `None` on overflow. From -65535 to 65535 none
-    /// overflows, so that `checked_apply(word.to_u16().into())` of a `UfWord` is `Some`.
+    /// overflows, so that `checked_apply_i32(word.to_u16().into())` of a `UfWord` is `Some`.
     #[tactic(auto, using(crate::proofs::Scaled::units_fit))]
-    pub const fn checked_apply(self, units: i32) -> Option<F26Dot6>
+    pub const fn checked_apply_i32(self, units: i32) -> Option<F26Dot6>
         ensures variant { IsSome result ↔ FitsBits 32 (rounded_product units (scale_bits self)) }
         ensures value { IfSome result
             (λ pixels. f26dot6_bits pixels ≡ rounded_product units (scale_bits self)) }
@@ -95,7 +95,7 @@ impl Scale {
     }
 
     /// Scales a point in font units, or returns `None` if a coordinate overflows.
-    pub const fn checked_apply_point(self, point: Point<i32>) -> Option<Point<F26Dot6>>
+    pub const fn checked_apply_point_i32(self, point: Point<i32>) -> Option<Point<F26Dot6>>
         ensures variant { IsSome result ↔ FitsPoint (record {
           x = rounded_product point.x (scale_bits self);
           y = rounded_product point.y (scale_bits self);
@@ -104,7 +104,7 @@ impl Scale {
             (f26dot6_bits pixels.x ≡ rounded_product point.x (scale_bits self))
             × (f26dot6_bits pixels.y ≡ rounded_product point.y (scale_bits self))) }
     {
-        match (self.checked_apply(point.x), self.checked_apply(point.y)) {
+        match (self.checked_apply_i32(point.x), self.checked_apply_i32(point.y)) {
             (Some(x), Some(y)) => Some(Point::new(x, y)),
             _ => None,
         }

@@ -109,7 +109,7 @@ impl Scale {
     }
 
     /// Scales a number of font units, or returns `None` on overflow. From -65535 to 65535 none
-    /// overflows, so that `checked_apply(word.to_u16().into())` of a `UfWord` is `Some`.
+    /// overflows, so that `checked_apply_i32(word.to_u16().into())` of a `UfWord` is `Some`.
     ///
     /// <details><summary>Contract</summary>
     ///
@@ -123,7 +123,7 @@ impl Scale {
     /// </details>
     #[must_use]
     #[inline]
-    pub const fn checked_apply(self, units: i32) -> Option<F26Dot6> {
+    pub const fn checked_apply_i32(self, units: i32) -> Option<F26Dot6> {
         match Fixed::from_bits(units).checked_mul(self.0) {
             Some(pixels) => Some(F26Dot6::from_bits(pixels.to_bits())),
             None => None,
@@ -163,8 +163,8 @@ impl Scale {
     /// </details>
     #[must_use]
     #[inline]
-    pub const fn checked_apply_point(self, point: Point<i32>) -> Option<Point<F26Dot6>> {
-        match (self.checked_apply(point.x), self.checked_apply(point.y)) {
+    pub const fn checked_apply_point_i32(self, point: Point<i32>) -> Option<Point<F26Dot6>> {
+        match (self.checked_apply_i32(point.x), self.checked_apply_i32(point.y)) {
             (Some(x), Some(y)) => Some(Point::new(x, y)),
             _ => None,
         }
