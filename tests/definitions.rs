@@ -90,8 +90,7 @@ fn ends_of_checked_calls() {
         (f(5).checked_mul_div(f(-1), f(2)), f(-3), f(i32::MIN).checked_mul_div(f(-1), f(1)));
         (Fixed::checked_from_i32(32767), f(0x7FFF_0000), Fixed::checked_from_i32(32768));
         (F26Dot6::checked_from_i32(-1 << 25), g(i32::MIN), F26Dot6::checked_from_i32(1 << 25));
-        (F2Dot30::checked_from_fixed(f(0x1_FFFF)), h(0x7FFF_C000),
-            F2Dot30::checked_from_fixed(f(0x2_0000)));
+        (f(0x1_FFFF).checked_to_f2dot30(), h(0x7FFF_C000), f(0x2_0000).checked_to_f2dot30());
         (F48Dot16::checked_from_i64((1 << 47) - 1), k(0x7FFF_FFFF_FFFF_0000),
             F48Dot16::checked_from_i64(1 << 47));
         (f(0x7FFF_7FFF).checked_to_i32(), 32767, f(0x7FFF_8000).checked_to_i32());
@@ -132,7 +131,7 @@ fn ends_of_checked_calls() {
             Matrix::from_elements([2, 3, 5, 7, i32::MAX, 13].map(f))
                 .checked_transform_point(Point::new(g(1 << 16), g(1 << 17))));
     }
-    assert_eq!([h(0x2000).to_fixed(), F2Dot30::from_fixed(f(3)).to_fixed()], [f(1), f(3)]);
+    assert_eq!([h(0x2000).to_fixed(), f(3).to_f2dot30().to_fixed()], [f(1), f(3)]);
 }
 
 #[test]

@@ -47,8 +47,8 @@ const _: () = {
 // Functions that are `const`, and are not in `font-types`, or not `const` there; `compare/compared`
 // looks at the others, and at those named `checked_..`.
 const _: () = {
-    assert!(F2Dot30::from_fixed(Fixed::ONE).to_fixed().to_bits() == 0x1_0000);
-    assert!(F2Dot30::from_f2dot14(F2Dot14::ONE).to_f2dot14().to_bits() == 0x4000);
+    assert!(Fixed::ONE.to_f2dot30().to_fixed().to_bits() == 0x1_0000);
+    assert!(F2Dot14::ONE.to_f2dot30().to_f2dot14().to_bits() == 0x4000);
     assert!(DeltaSum::new().finish().to_bits() == 0 && Pad::new(3).width == 3);
     assert!(!Offset16::new(12).is_null() && Offset16::new(12).eq_u32(&12));
     assert!(CVT.as_bytes()[2] == b't' && CVT.into_bytes()[1] == b'v');

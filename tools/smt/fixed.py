@@ -121,7 +121,7 @@ def widening(name: str, w: int, body: str, k: int, out: int, checked_body: str =
     case(name, f"x: i{w}", f"i{out}", f"{body}.to_bits()", lambda p, x: wrap(out, S(x) * (1 << k)))
     if checked_body:
         T, method = name.split("::")
-        case(f"{T}::checked_{method}", f"x: i{w}", f"?i{out}", f"{checked_body}.map({T}::to_bits)",
+        case(f"{T}::checked_{method}", f"x: i{w}", f"?i{out}", f"{checked_body}.map(|it| it.to_bits())",
              lambda p, x: checked(out, S(x) * (1 << k)))
 
 
@@ -131,9 +131,8 @@ widening("Fixed: From<i32>", 32, "Fixed::from(x)", 16, 32)
 widening("F26Dot6::from_i32", 32, "F26Dot6::from_i32(x)", 6, 32, "F26Dot6::checked_from_i32(x)")
 widening("F48Dot16::from_i64", 64, "F48Dot16::from_i64(x)", 16, 64, "F48Dot16::checked_from_i64(x)")
 widening("F48Dot16::from_i32", 32, "F48Dot16::from_i32(x)", 16, 64)
-widening("F2Dot30::from_fixed", 32, f"F2Dot30::from_fixed({X})", 14, 32,
-         f"F2Dot30::checked_from_fixed({X})")
-widening("F2Dot30::from_f2dot14", 16, f"F2Dot30::from_f2dot14({Q})", 16, 32)
+widening("Fixed::to_f2dot30", 32, f"{X}.to_f2dot30()", 14, 32, f"{X}.checked_to_f2dot30()")
+widening("F2Dot14::to_f2dot30", 16, f"{Q}.to_f2dot30()", 16, 32)
 widening("F2Dot30: From<F2Dot14>", 16, f"F2Dot30::from({Q})", 16, 32)
 widening("F2Dot14::to_fixed", 16, f"{Q}.to_fixed()", 2, 32)
 widening("Fixed: From<F2Dot14>", 16, f"Fixed::from({Q})", 2, 32)

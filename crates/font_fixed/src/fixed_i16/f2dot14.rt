@@ -2,15 +2,16 @@
 #![tactic(auto, using(crate::proofs::Rules::number_code))]
 
 ghost use Rattle.std.proofs.Common.{lit≤};
-ghost use Rattle.std.specs.Prelude.{◌≡◌, ◌↔◌, ℤ, pos, ◌+ℤ◌, ◌*ℤ◌, IsSome, IfSome};
+ghost use Rattle.std.specs.Prelude.{◌≡◌, ◌^◌, ◌↔◌, ℤ, pos, ◌+ℤ◌, ◌*ℤ◌, IsSome, IfSome};
 ghost use Rattle.font_base.specs.Wrap.{FitsBits};
 ghost use Rattle.font_decimal.specs.Near.{up};
 ghost use Rattle.font_fixed.specs.F48Dot16.{f48dot16_bits};
 ghost use Rattle.font_fixed.specs.{F2Dot14.f2dot14_bits as bits_of, Fixed.fixed_bits};
+ghost use Rattle.font_fixed.specs.F2Dot30.{f2dot30_bits};
 
 use super::FixedI16;
 use crate::formats::Format;
-use crate::{F48Dot16, Fixed, fitting_16, nearest_step, nearest_sum};
+use crate::{F2Dot30, F48Dot16, Fixed, fitting_16, nearest_step, nearest_sum};
 
 /// A signed 2.14 fixed-point number, such as a coordinate of a normalized design space.
 ///
@@ -57,6 +58,13 @@ impl F2Dot14 {
         ensures { fixed_bits result ≡ (bits_of self *ℤ pos 4) }
     {
         Fixed::from_bits(self.0 as i32 * 4)
+    }
+
+    /// Converts to [`F2Dot30`], exactly.
+    pub const fn to_f2dot30(self) -> F2Dot30
+        ensures { f2dot30_bits result ≡ (bits_of self *ℤ pos (2 ^ 16)) }
+    {
+        F2Dot30::from_bits(self.0 as i32 * 0x1_0000)
     }
 
     /// Adds a sum of deltas, exactly. The result is in units of `2^-30`.

@@ -3,7 +3,7 @@
 
 ghost use Rattle.std.specs.Prelude.{◌≡◌, ◌^◌, ◌↔◌, ℤ, pos, ◌*ℤ◌, IsSome, IfSome, refl};
 ghost use Rattle.std.proofs.Common.{lit<, lit≤};
-ghost use Rattle.font_base.specs.Wrap.{FitsBits, fits_bits, wrap};
+ghost use Rattle.font_base.specs.Wrap.{FitsBits, fits_bits};
 ghost use Rattle.font_base.specs.Bytes.{bytes_of, signed_numeral};
 ghost use Rattle.font_base.specs.Scalar.Laws.{signed_newtype, signed_identity};
 ghost use Rattle.font_decimal.specs.Near.{up};
@@ -54,32 +54,6 @@ impl F2Dot30 {
     /// The value -1.
     pub const NEG_ONE: Self = Self(-0x4000_0000);
 
-    /// Converts from [`Fixed`], wrapping on overflow: exact from -2 up to but not including 2.
-    pub const fn from_fixed(number: Fixed) -> Self
-        ensures { bits_of result ≡ wrap 32 (fixed_bits number *ℤ pos (2 ^ 14)) }
-    {
-        Self(number.to_bits().wrapping_mul(0x4000))
-    }
-
-    /// Converts from [`Fixed`], or returns `None` on overflow.
-    pub const fn checked_from_fixed(number: Fixed) -> Option<Self>
-        ensures variant { IsSome result ↔ FitsBits 32 (fixed_bits number *ℤ pos (2 ^ 14)) }
-        ensures value { IfSome result
-            (λ long. bits_of long ≡ (fixed_bits number *ℤ pos (2 ^ 14))) }
-    {
-        match number.to_bits().checked_mul(0x4000) {
-            Some(bits) => Some(Self(bits)),
-            None => None,
-        }
-    }
-
-    /// Converts from [`F2Dot14`], exactly.
-    pub const fn from_f2dot14(number: F2Dot14) -> Self
-        ensures { bits_of result ≡ (f2dot14_bits number *ℤ pos (2 ^ 16)) }
-    {
-        Self(number.to_bits() as i32 * 0x1_0000)
-    }
-
     /// Rounds to the nearest [`Fixed`], half up.
     #[inline(always)]
     pub const fn to_fixed(self) -> Fixed
@@ -108,12 +82,12 @@ impl F2Dot30 {
     }
 }
 
-/// Converts exactly, as `from_f2dot14` does.
+/// Converts exactly, as `to_f2dot30` does.
 impl From<F2Dot14> for F2Dot30 {
     ghost from_gives = { λ number long. bits_of long ≡ (f2dot14_bits number *ℤ pos (2 ^ 16)) };
 
     fn from(number: F2Dot14) -> F2Dot30 {
-        F2Dot30::from_f2dot14(number)
+        number.to_f2dot30()
     }
 }
 

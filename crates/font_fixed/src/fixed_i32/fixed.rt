@@ -12,12 +12,12 @@ ghost use Rattle.font_fixed.specs.Operations.{IsNarrowed, IsProduct, IsQuotient,
 ghost use Rattle.font_fixed.specs.Operations.{rounded_mul_div};
 ghost use Rattle.font_fixed.specs.Fixed.{fixed_bits as bits_of, fixed_of as of_bits};
 ghost use Rattle.font_fixed.specs.F48Dot16.{f48dot16_bits};
-ghost use Rattle.font_fixed.specs.{F2Dot14.f2dot14_bits, F26Dot6.f26dot6_bits};
+ghost use Rattle.font_fixed.specs.{F2Dot14.f2dot14_bits, F26Dot6.f26dot6_bits, F2Dot30.f2dot30_bits};
 
 use super::FixedI32;
 use crate::formats::Format;
 use crate::{
-    F2Dot14, F26Dot6, F48Dot16, fitting_16, fitting_32, half_up_32, half_up_64, mul_div, narrow_32,
+    F2Dot14, F2Dot30, F26Dot6, F48Dot16, fitting_16, fitting_32, half_up_32, half_up_64, mul_div, narrow_32,
     nearest_mul_div, nearest_product, product,
 };
 use font_base::{FixedSize, IdentityEq, Scalar};
@@ -190,6 +190,24 @@ impl Fixed {
     {
         match fitting_16(half_up_32(self.0, 2) as i64) {
             Some(bits) => Some(F2Dot14::from_bits(bits)),
+            None => None,
+        }
+    }
+
+    /// Converts to [`F2Dot30`], wrapping on overflow: exact from -2 up to but not including 2.
+    pub const fn to_f2dot30(self) -> F2Dot30
+        ensures { f2dot30_bits result ≡ wrap 32 (bits_of self *ℤ pos (2 ^ 14)) }
+    {
+        F2Dot30::from_bits(self.0.wrapping_mul(0x4000))
+    }
+
+    /// Converts to [`F2Dot30`], or returns `None` on overflow.
+    pub const fn checked_to_f2dot30(self) -> Option<F2Dot30>
+        ensures variant { IsSome result ↔ FitsBits 32 (bits_of self *ℤ pos (2 ^ 14)) }
+        ensures value { IfSome result (λ long. f2dot30_bits long ≡ (bits_of self *ℤ pos (2 ^ 14))) }
+    {
+        match self.0.checked_mul(0x4000) {
+            Some(bits) => Some(F2Dot30::from_bits(bits)),
             None => None,
         }
     }

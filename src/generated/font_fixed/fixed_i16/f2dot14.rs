@@ -8,12 +8,13 @@ use crate::definitions::font_base::Wrap_antt::FitsBits;
 use crate::definitions::font_decimal::Near_antt::Up as up;
 #[cfg(doc)]
 use crate::definitions::font_fixed::{
-    F2Dot14_antt::f2dot14_bits as bits_of, F48Dot16_antt::f48dot16_bits, Fixed_antt::fixed_bits,
+    F2Dot14_antt::f2dot14_bits as bits_of, F2Dot30_antt::f2dot30_bits,
+    F48Dot16_antt::f48dot16_bits, Fixed_antt::fixed_bits,
 };
 
 use super::FixedI16;
 use crate::font_fixed::formats::Format;
-use crate::font_fixed::{F48Dot16, Fixed, fitting_16, nearest_step, nearest_sum};
+use crate::font_fixed::{F2Dot30, F48Dot16, Fixed, fitting_16, nearest_step, nearest_sum};
 
 /// A signed 2.14 fixed-point number, such as a coordinate of a normalized design space.
 ///
@@ -63,6 +64,21 @@ impl F2Dot14 {
     #[inline(always)]
     pub const fn to_fixed(self) -> Fixed {
         Fixed::from_bits(self.0 as i32 * 4)
+    }
+
+    /// Converts to [`F2Dot30`], exactly.
+    ///
+    /// <details><summary>Contract</summary>
+    ///
+    /// ```text
+    /// ensures { f2dot30_bits result ≡ (bits_of self *ℤ pos (2 ^ 16)) }
+    /// ```
+    /// [Notation](crate::definitions): [`f2dot30_bits`], [`bits_of`]
+    /// </details>
+    #[must_use]
+    #[inline]
+    pub const fn to_f2dot30(self) -> F2Dot30 {
+        F2Dot30::from_bits(self.0 as i32 * 0x1_0000)
     }
 
     /// Adds a sum of deltas, exactly. The result is in units of `2^-30`.

@@ -5,7 +5,7 @@
 #[cfg(doc)]
 use crate::definitions::font_base::{
     Bytes_antt::{bytes_of, signed_numeral},
-    Wrap_antt::{FitsBits, fits_bits, wrap},
+    Wrap_antt::{FitsBits, fits_bits},
 };
 #[cfg(doc)]
 use crate::definitions::font_decimal::Near_antt::Up as up;
@@ -57,56 +57,6 @@ impl F2Dot30 {
     /// The value -1.
     pub const NEG_ONE: Self = Self(-0x4000_0000);
 
-    /// Converts from [`Fixed`], wrapping on overflow: exact from -2 up to but not including 2.
-    ///
-    /// <details><summary>Contract</summary>
-    ///
-    /// ```text
-    /// ensures { bits_of result ≡ wrap 32 (fixed_bits number *ℤ pos (2 ^ 14)) }
-    /// ```
-    /// [Notation](crate::definitions): [`bits_of`], [`wrap`], [`fixed_bits`]
-    /// </details>
-    #[must_use]
-    #[inline]
-    pub const fn from_fixed(number: Fixed) -> Self {
-        Self(number.to_bits().wrapping_mul(0x4000))
-    }
-
-    /// Converts from [`Fixed`], or returns `None` on overflow.
-    ///
-    /// <details><summary>Contract</summary>
-    ///
-    /// ```text
-    /// ensures variant { IsSome result ↔ FitsBits 32 (fixed_bits number *ℤ pos (2 ^ 14)) }
-    /// ensures value { IfSome result
-    ///     (λ long. bits_of long ≡ (fixed_bits number *ℤ pos (2 ^ 14))) }
-    /// ```
-    /// [Notation](crate::definitions): [`FitsBits`], [`fixed_bits`], [`bits_of`]
-    /// </details>
-    #[must_use]
-    #[inline]
-    pub const fn checked_from_fixed(number: Fixed) -> Option<Self> {
-        match number.to_bits().checked_mul(0x4000) {
-            Some(bits) => Some(Self(bits)),
-            None => None,
-        }
-    }
-
-    /// Converts from [`F2Dot14`], exactly.
-    ///
-    /// <details><summary>Contract</summary>
-    ///
-    /// ```text
-    /// ensures { bits_of result ≡ (f2dot14_bits number *ℤ pos (2 ^ 16)) }
-    /// ```
-    /// [Notation](crate::definitions): [`bits_of`], [`f2dot14_bits`]
-    /// </details>
-    #[must_use]
-    #[inline]
-    pub const fn from_f2dot14(number: F2Dot14) -> Self {
-        Self(number.to_bits() as i32 * 0x1_0000)
-    }
-
     /// Rounds to the nearest [`Fixed`], half up.
     ///
     /// <details><summary>Contract</summary>
@@ -157,7 +107,7 @@ impl F2Dot30 {
     }
 }
 
-/// Converts exactly, as `from_f2dot14` does.
+/// Converts exactly, as `to_f2dot30` does.
 ///
 /// <details><summary>Contract</summary>
 ///
@@ -169,7 +119,7 @@ impl F2Dot30 {
 impl From<F2Dot14> for F2Dot30 {
     #[inline]
     fn from(number: F2Dot14) -> F2Dot30 {
-        F2Dot30::from_f2dot14(number)
+        number.to_f2dot30()
     }
 }
 

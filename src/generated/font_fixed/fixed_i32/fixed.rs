@@ -12,6 +12,7 @@ use crate::definitions::font_decimal::Near_antt::{Near as near, Up as up};
 #[cfg(doc)]
 use crate::definitions::font_fixed::{
     F2Dot14_antt::f2dot14_bits,
+    F2Dot30_antt::f2dot30_bits,
     F26Dot6_antt::f26dot6_bits,
     F48Dot16_antt::f48dot16_bits,
     Fixed_antt::{fixed_bits as bits_of, fixed_of as of_bits},
@@ -22,8 +23,8 @@ use super::FixedI32;
 use crate::font_base::{FixedSize, IdentityEq, Scalar};
 use crate::font_fixed::formats::Format;
 use crate::font_fixed::{
-    F2Dot14, F26Dot6, F48Dot16, fitting_16, fitting_32, half_up_32, half_up_64, mul_div, narrow_32,
-    nearest_mul_div, nearest_product, product,
+    F2Dot14, F2Dot30, F26Dot6, F48Dot16, fitting_16, fitting_32, half_up_32, half_up_64, mul_div,
+    narrow_32, nearest_mul_div, nearest_product, product,
 };
 use core::ops::{Div, DivAssign, Mul, MulAssign};
 
@@ -281,6 +282,40 @@ impl Fixed {
     pub const fn checked_to_f2dot14(self) -> Option<F2Dot14> {
         match fitting_16(half_up_32(self.0, 2) as i64) {
             Some(bits) => Some(F2Dot14::from_bits(bits)),
+            None => None,
+        }
+    }
+
+    /// Converts to [`F2Dot30`], wrapping on overflow: exact from -2 up to but not including 2.
+    ///
+    /// <details><summary>Contract</summary>
+    ///
+    /// ```text
+    /// ensures { f2dot30_bits result ≡ wrap 32 (bits_of self *ℤ pos (2 ^ 14)) }
+    /// ```
+    /// [Notation](crate::definitions): [`f2dot30_bits`], [`wrap`], [`bits_of`]
+    /// </details>
+    #[must_use]
+    #[inline]
+    pub const fn to_f2dot30(self) -> F2Dot30 {
+        F2Dot30::from_bits(self.0.wrapping_mul(0x4000))
+    }
+
+    /// Converts to [`F2Dot30`], or returns `None` on overflow.
+    ///
+    /// <details><summary>Contract</summary>
+    ///
+    /// ```text
+    /// ensures variant { IsSome result ↔ FitsBits 32 (bits_of self *ℤ pos (2 ^ 14)) }
+    /// ensures value { IfSome result (λ long. f2dot30_bits long ≡ (bits_of self *ℤ pos (2 ^ 14))) }
+    /// ```
+    /// [Notation](crate::definitions): [`FitsBits`], [`bits_of`], [`f2dot30_bits`]
+    /// </details>
+    #[must_use]
+    #[inline]
+    pub const fn checked_to_f2dot30(self) -> Option<F2Dot30> {
+        match self.0.checked_mul(0x4000) {
+            Some(bits) => Some(F2Dot30::from_bits(bits)),
             None => None,
         }
     }

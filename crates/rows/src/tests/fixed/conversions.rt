@@ -72,7 +72,7 @@ fn widened(rt: HostRuntime) {
     let half = F2Dot14::from_bits(-0x2000);
     assert!(rt; [half.to_fixed(), Fixed::from(half)] == [Fixed::from_bits(-0x8000); 2]);
     assert!(rt;
-        [F2Dot30::from_f2dot14(half), F2Dot30::from(half)] == [F2Dot30::from_bits(-0x2000_0000); 2]
+        [half.to_f2dot30(), F2Dot30::from(half)] == [F2Dot30::from_bits(-0x2000_0000); 2]
     );
     assert!(rt; Fixed::MIN.to_f48dot16() == F48Dot16::from_bits(-0x8000_0000));
     assert!(rt; Fixed::MIN.mul_i32(i32::MIN) == F48Dot16::from_bits(1 << 62));
@@ -105,7 +105,7 @@ fn from_others(rt: HostRuntime) {
         (-131073, 0x7FFF_C000),
         (1, 0x4000),
     ] {
-        let x = F2Dot30::from_fixed(Fixed::from_bits(bits));
-        assert!(rt; x == F2Dot30::from_bits(long), "from_fixed of {bits}");
+        let x = Fixed::from_bits(bits).to_f2dot30();
+        assert!(rt; x == F2Dot30::from_bits(long), "to_f2dot30 of {bits}");
     }
 }
