@@ -38,6 +38,7 @@ macro_rules! one_of_each_width {
                 assert_eq!((found, none), (Some($Type::from_bits(right)), None), "row {row}");
             }
             assert_eq!($Type::max_text_len(), $longest);
+            assert_eq!([x, y, z].map(|n| $Type::from_be_bytes(n.to_be_bytes())), [x, y, z]);
             for text in ["-0", "+1", "--1", "1\0", "\n1", "1/", "1:", "1_0", "\u{661}", "1.5a"] {
                 let right = if text == "-0" { Ok($Type::ZERO) } else { Err(DecimalFault::Syntax) };
                 let found = [text.parse(), $Type::from_decimal_bytes(text.as_bytes())];

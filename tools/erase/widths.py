@@ -58,8 +58,9 @@ def whole(root: Path, path: str) -> list[str]:
 
 def of_width(text: str, width: int, name: str) -> str:
     """Returns a text about 32 bits as one about another width."""
-    for old, new in ("[u8; 4]", f"[u8; {width // 8}]"), ("bytes_of 4", f"bytes_of {width // 8}"):
-        text = text.replace(old, new)
+    for number in "[u8; 4", "bytes_of 4", "signed_numeral 4":
+        text = text.replace(number, f"{number[:-1]}{width // 8}")
+    text = text.replace("u32::from_be_bytes", f"u{width}::from_be_bytes")
     text = text.replace("(31 - F)", f"({width - 1} - F)")
     text = re.sub(r"(?<!\w)((?:\w*[iIw_])?)32(?!\w)", rf"\g<1>{width}", text)
     text = re.sub(r"(?<!\w)Fixed(?!\w)", name, text)

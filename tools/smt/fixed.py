@@ -45,6 +45,8 @@ def of_bits(T: str, w: int) -> None:
     x, y = f"{T}::from_bits(x)", f"{T}::from_bits(y)"
     case(f"{T}::to_be_bytes", f"x: i{w}", f"[{w // 8}]", f"{x}.to_be_bytes()",
          lambda p, x: big_endian(x, w // 8))
+    case(f"{T}::from_be_bytes", f"x: i{w}", f"i{w}",
+         f"{T}::from_be_bytes(x.to_be_bytes()).to_bits()", lambda p, x: x)
     case(f"{T} < {T}", f"x: i{w}, y: i{w}", "bool", f"{x} < {y}", lambda p, x, y: B(S(x) < S(y)))
     case(f"{T} == {T}", f"x: i{w}, y: i{w}", "bool", f"{x} == {y}", lambda p, x, y: B(S(x) == S(y)))
 

@@ -4,7 +4,7 @@
 ghost use Rattle.std.specs.Prelude.{◌≡◌, ◌≤◌, ◌↔◌, ◌/◌, ◌^◌, ℤ, pos, neg_ℤ, ◌+ℤ◌, ◌-ℤ◌, ◌≤ℤ◌, ◌<ℤ◌};
 ghost use Rattle.std.specs.Prelude.{[], Some, IsSome, IfSome, IfNone, length, max, unsigned_abs};
 ghost use Rattle.std.specs.{Int.w32, Fmt.padded_integral};
-ghost use Rattle.font_base.specs.{Wrap.FitsBits, Bytes.bytes_of};
+ghost use Rattle.font_base.specs.{Wrap.FitsBits, Bytes.bytes_of, Bytes.signed_numeral};
 ghost use Rattle.font_decimal.specs.Padding.{has_minus, unsigned_body, padded_text, FillsFront};
 ghost use Rattle.font_decimal.specs.{Shortest.IsShortest, Shown.shown};
 ghost use Rattle.font_fixed.specs.Operations.{WrapsTo, IsNearestWhole, IsIntegral, IsFloor};
@@ -153,6 +153,15 @@ impl<const F: u32> FixedI32<F> {
             Some(bits) => Some(Self(bits)),
             None => None,
         }
+    }
+
+    /// Creates a value from the big-endian bytes of its raw bits.
+    #[inline(always)]
+    #[tactic(auto, using(font_base::proofs::StdBytes::std_bytes))]
+    pub const fn from_be_bytes(bytes: [u8; 4]) -> Self
+        ensures { bits_of result ≡ signed_numeral 4 bytes }
+    {
+        Self(u32::from_be_bytes(bytes).cast_signed())
     }
 
     /// Returns the raw bits as big-endian bytes.

@@ -271,6 +271,21 @@ impl<const F: u32> FixedI16<F> {
         }
     }
 
+    /// Creates a value from the big-endian bytes of its raw bits.
+    ///
+    /// <details><summary>Contract</summary>
+    ///
+    /// ```text
+    /// ensures { bits_of result ≡ signed_numeral 2 bytes }
+    /// ```
+    /// [Notation](crate::definitions): [`bits_of`], [`signed_numeral`]
+    /// </details>
+    #[must_use]
+    #[inline(always)]
+    pub const fn from_be_bytes(bytes: [u8; 2]) -> Self {
+        Self(u16::from_be_bytes(bytes).cast_signed())
+    }
+
     /// Returns the raw bits as big-endian bytes.
     ///
     /// <details><summary>Contract</summary>

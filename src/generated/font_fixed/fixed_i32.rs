@@ -3,7 +3,10 @@
 //! 32-bit fixed-point numbers.
 
 #[cfg(doc)]
-use crate::definitions::font_base::{Bytes_antt::bytes_of, Wrap_antt::FitsBits};
+use crate::definitions::font_base::{
+    Bytes_antt::{bytes_of, signed_numeral},
+    Wrap_antt::FitsBits,
+};
 #[cfg(doc)]
 use crate::definitions::font_decimal::{
     Padding_antt::{FillsFront, has_minus, padded_text, unsigned_body},
@@ -235,6 +238,21 @@ impl<const F: u32> FixedI32<F> {
             Some(bits) => Some(Self(bits)),
             None => None,
         }
+    }
+
+    /// Creates a value from the big-endian bytes of its raw bits.
+    ///
+    /// <details><summary>Contract</summary>
+    ///
+    /// ```text
+    /// ensures { bits_of result ≡ signed_numeral 4 bytes }
+    /// ```
+    /// [Notation](crate::definitions): [`bits_of`], [`signed_numeral`]
+    /// </details>
+    #[must_use]
+    #[inline(always)]
+    pub const fn from_be_bytes(bytes: [u8; 4]) -> Self {
+        Self(u32::from_be_bytes(bytes).cast_signed())
     }
 
     /// Returns the raw bits as big-endian bytes.
