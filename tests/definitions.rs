@@ -105,10 +105,10 @@ fn ends_of_checked_calls() {
         (k(-1 << 31).checked_to_fixed(), f(i32::MIN), k(1 << 31).checked_to_fixed());
         (UfWord::new(32767).checked_to_fixed(), f(0x7FFF_0000),
             UfWord::new(32768).checked_to_fixed());
-        (FWord::round_delta(0x7FFF_7FFF), FWord::new(32767), FWord::round_delta(0x7FFF_8000));
-        (UfWord::round_delta(-0x8000), UfWord::new(0), UfWord::round_delta(-0x8001));
-        (F2Dot14::round_delta(-0x8000_8000), m(i16::MIN), F2Dot14::round_delta(-0x8000_8001));
-        (Fixed::round_delta(0x7FFF_FFFF_7FFF), Fixed::MAX, Fixed::round_delta(1 << 47));
+        (m(i16::MIN).checked_add_delta(k(-0x8000)), m(i16::MIN),
+            m(i16::MIN).checked_add_delta(k(-0x8001)));
+        (Fixed::MAX.checked_add_delta(k(0x7FFF)), Fixed::MAX,
+            Fixed::MAX.checked_add_delta(k(0x8000)));
         (FWord::new(9).checked_add_delta(k(0x8000)), FWord::new(10),
             FWord::new(32767).checked_add_delta(k(0x8000)));
         (UfWord::new(9).checked_add_delta(k(-0x8001)), UfWord::new(8),

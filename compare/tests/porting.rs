@@ -151,10 +151,10 @@ fn apply_delta() {
     }
     // Rounded once, and not to an f32 first.
     for raw in edges(20) {
-        let moved = here::FWord::new(500).apply_delta(here::F48Dot16::from_bits(raw));
+        let moved = here::FWord::new(500).checked_add_delta(here::F48Dot16::from_bits(raw));
         let exact = 500.0 + there::F48Dot16::from_bits(raw).to_f64();
         let rounded = (exact + 0.5).floor() as i16;
-        let ours = here::FWord::round_delta(moved).map(here::FWord::to_i16);
+        let ours = moved.map(here::FWord::to_i16);
         assert_eq!(ours, Some(rounded), "{raw}");
     }
 }

@@ -160,8 +160,6 @@ def deltas(T: str, i: str, make: str, get: str) -> None:
     rounded = lambda n: some(fit(w, up(n, 16)), wrap(w, up(n, 16)))
     case(f"{T}::apply_delta", f"x: {i}, y: i64", "i128", f"{value}.apply_delta({delta})",
          lambda p, x, y: wrap(128, total(x, y)))
-    case(f"{T}::round_delta", "x: i128", f"?{i}", f"{T}::round_delta(x){map_}",
-         lambda p, x: rounded(S(x)))
     case(f"{T}::checked_add_delta", f"x: {i}, y: i64", f"?{i}",
          f"{value}.checked_add_delta({delta}){map_}", lambda p, x, y: rounded(total(x, y)))
 

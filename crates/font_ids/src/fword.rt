@@ -13,7 +13,7 @@ ghost use Rattle.font_ids.specs.FWord.{fword_number, fword_of, ufword_number, uf
 ghost use Rattle.font_ids.specs.FWord.{nearest_unit};
 
 use font_base::{FixedSize, IdentityEq, Scalar};
-use font_fixed::{F48Dot16, Fixed, fitting_16, nearest_step, nearest_sum};
+use font_fixed::{F48Dot16, Fixed, fitting_16, nearest_sum};
 use std::fmt;
 
 /// A signed 16-bit quantity in font design units.
@@ -56,23 +56,8 @@ impl FWord {
         i128::from(self.to_i16()) * 0x1_0000 + i128::from(delta.to_bits())
     }
 
-    /// Rounds a 16.16 raw value, such as the result of `apply_delta` or `vary`, to the nearest font
-    /// unit, half up, or returns `None` if that is out of range.
-    ///
-    /// ```
-    /// use font_types::{FWord, Fixed, vary};
-    /// let moved = vary(FWord::new(100), &[(Fixed::from_bits(0x8000), 3)]).unwrap();
-    /// assert_eq!(FWord::round_delta(moved), Some(FWord::new(102)));
-    /// ```
-    pub fn round_delta(moved: i128) -> Option<FWord>
-        ensures variant { IsSome result ↔ FitsBits 16 (nearest_unit moved) }
-        ensures value { IfSome result (λ word. fword_number word ≡ nearest_unit moved) }
-    {
-        Some(FWord::new(i16::try_from(nearest_step(moved)).ok()?))
-    }
-
     /// Adds a sum of deltas and rounds to the nearest font unit, half up, or returns `None` if that
-    /// is out of range: `round_delta` of `apply_delta`, in 64 bits.
+    /// is out of range.
     ///
     /// ```
     /// use font_types::{F48Dot16, FWord};
@@ -222,18 +207,8 @@ impl UfWord {
         i128::from(self.to_u16()) * 0x1_0000 + i128::from(delta.to_bits())
     }
 
-    /// Rounds a 16.16 raw value, such as the result of `apply_delta`, to the nearest font unit,
-    /// half up, or returns `None` if that is out of range.
-    pub fn round_delta(moved: i128) -> Option<UfWord>
-        ensures variant { IsSome result
-            ↔ ((pos 0 ≤ℤ nearest_unit moved) × (nearest_unit moved <ℤ pos 65536)) }
-        ensures value { IfSome result (λ word. pos (ufword_number word) ≡ nearest_unit moved) }
-    {
-        Some(UfWord::new(u16::try_from(nearest_step(moved)).ok()?))
-    }
-
     /// Adds a sum of deltas and rounds to the nearest font unit, half up, or returns `None` if that
-    /// is out of range: `round_delta` of `apply_delta`, in 64 bits.
+    /// is out of range.
     pub const fn checked_add_delta(self, delta: F48Dot16) -> Option<UfWord>
         ensures variant { IsSome result ↔ (
             (pos 0 ≤ℤ nearest_unit (pos (ufword_number self) *ℤ pos 65536 +ℤ f48dot16_bits delta))

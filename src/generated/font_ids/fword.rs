@@ -15,7 +15,7 @@ use crate::definitions::font_ids::FWord_antt::{
 };
 
 use crate::font_base::{FixedSize, IdentityEq, Scalar};
-use crate::font_fixed::{F48Dot16, Fixed, fitting_16, nearest_step, nearest_sum};
+use crate::font_fixed::{F48Dot16, Fixed, fitting_16, nearest_sum};
 use core::fmt;
 
 /// A signed 16-bit quantity in font design units.
@@ -91,31 +91,8 @@ impl FWord {
         i128::from(self.to_i16()) * 0x1_0000 + i128::from(delta.to_bits())
     }
 
-    /// Rounds a 16.16 raw value, such as the result of `apply_delta` or `vary`, to the nearest font
-    /// unit, half up, or returns `None` if that is out of range.
-    ///
-    /// ```
-    /// use font_types_proved::{FWord, Fixed, vary};
-    /// let moved = vary(FWord::new(100), &[(Fixed::from_bits(0x8000), 3)]).unwrap();
-    /// assert_eq!(FWord::round_delta(moved), Some(FWord::new(102)));
-    /// ```
-    ///
-    /// <details><summary>Contract</summary>
-    ///
-    /// ```text
-    /// ensures variant { IsSome result ↔ FitsBits 16 (nearest_unit moved) }
-    /// ensures value { IfSome result (λ word. fword_number word ≡ nearest_unit moved) }
-    /// ```
-    /// [Notation](crate::definitions): [`FitsBits`], [`nearest_unit`], [`fword_number`]
-    /// </details>
-    #[must_use]
-    #[inline]
-    pub fn round_delta(moved: i128) -> Option<FWord> {
-        Some(FWord::new(i16::try_from(nearest_step(moved)).ok()?))
-    }
-
     /// Adds a sum of deltas and rounds to the nearest font unit, half up, or returns `None` if that
-    /// is out of range: `round_delta` of `apply_delta`, in 64 bits.
+    /// is out of range.
     ///
     /// ```
     /// use font_types_proved::{F48Dot16, FWord};
@@ -350,26 +327,8 @@ impl UfWord {
         i128::from(self.to_u16()) * 0x1_0000 + i128::from(delta.to_bits())
     }
 
-    /// Rounds a 16.16 raw value, such as the result of `apply_delta`, to the nearest font unit,
-    /// half up, or returns `None` if that is out of range.
-    ///
-    /// <details><summary>Contract</summary>
-    ///
-    /// ```text
-    /// ensures variant { IsSome result
-    ///     ↔ ((pos 0 ≤ℤ nearest_unit moved) × (nearest_unit moved <ℤ pos 65536)) }
-    /// ensures value { IfSome result (λ word. pos (ufword_number word) ≡ nearest_unit moved) }
-    /// ```
-    /// [Notation](crate::definitions): [`nearest_unit`], [`ufword_number`]
-    /// </details>
-    #[must_use]
-    #[inline]
-    pub fn round_delta(moved: i128) -> Option<UfWord> {
-        Some(UfWord::new(u16::try_from(nearest_step(moved)).ok()?))
-    }
-
     /// Adds a sum of deltas and rounds to the nearest font unit, half up, or returns `None` if that
-    /// is out of range: `round_delta` of `apply_delta`, in 64 bits.
+    /// is out of range.
     ///
     /// <details><summary>Contract</summary>
     ///

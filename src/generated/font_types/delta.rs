@@ -235,7 +235,8 @@ pub fn checked_delta_sum(terms: &[(Fixed, i32)]) -> Option<F48Dot16> {
 /// Adds the exact sum of deltas to a quantity in font units, and returns the 16.16 raw value, or
 /// `None` if `checked_delta_sum` does.
 ///
-/// 100 font units and half of 3 are 101.5:
+/// To round the result to a font unit, pass `checked_delta_sum(terms)?` to `checked_add_delta` of
+/// the quantity instead. 100 font units and half of 3 are 101.5:
 ///
 /// ```
 /// use font_types_proved::{FWord, Fixed, vary};

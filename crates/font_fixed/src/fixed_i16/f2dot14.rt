@@ -11,7 +11,7 @@ ghost use Rattle.font_fixed.specs.F2Dot30.{f2dot30_bits};
 
 use super::FixedI16;
 use crate::formats::Format;
-use crate::{F2Dot30, F48Dot16, Fixed, fitting_16, nearest_step, nearest_sum};
+use crate::{F2Dot30, F48Dot16, Fixed, fitting_16, nearest_sum};
 
 /// A signed 2.14 fixed-point number, such as a coordinate of a normalized design space.
 ///
@@ -76,23 +76,8 @@ impl F2Dot14 {
         i128::from(self.0) * 0x1_0000 + i128::from(delta.to_bits())
     }
 
-    /// Rounds a result of `apply_delta` to a value, half up, or returns `None` if that is out of
-    /// range.
-    ///
-    /// ```
-    /// use font_types::{F2Dot14, F48Dot16};
-    /// let moved = F2Dot14::ONE.apply_delta(F48Dot16::from_i32(-3));
-    /// assert_eq!(F2Dot14::round_delta(moved), Some(F2Dot14::from_bits(0x3FFD)));
-    /// ```
-    pub fn round_delta(moved: i128) -> Option<Self>
-        ensures variant { IsSome result ↔ FitsBits 16 (up moved 65536) }
-        ensures value { IfSome result (λ number. bits_of number ≡ up moved 65536) }
-    {
-        Some(Self(i16::try_from(nearest_step(moved)).ok()?))
-    }
-
     /// Adds a sum of deltas and rounds to the nearest value, half up, or returns `None` if that is
-    /// out of range: `round_delta` of `apply_delta`, in 64 bits.
+    /// out of range.
     ///
     /// A delta of 1 is one unit of the raw value, `1 / 16384`.
     ///

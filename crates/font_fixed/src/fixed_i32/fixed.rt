@@ -237,15 +237,9 @@ impl Fixed {
         i128::from(self.0) * 0x1_0000 + i128::from(delta.to_bits())
     }
 
-    /// Rounds a result of `apply_delta` to a value, half up, or returns `None` if that is out of
-    /// range.
-    ///
-    /// ```
-    /// use font_types::{F48Dot16, Fixed};
-    /// let moved = Fixed::ONE.apply_delta(F48Dot16::from_i32(3));
-    /// assert_eq!(Fixed::round_delta(moved), Some(Fixed::from_bits(0x1_0003)));
-    /// ```
-    pub fn round_delta(moved: i128) -> Option<Self>
+    // Rounds a result of `apply_delta` to a value, half up, or returns `None` if that is out of
+    // range.
+    pub(crate) fn round_delta(moved: i128) -> Option<Self>
         ensures variant { IsSome result ↔ FitsBits 32 (up moved 65536) }
         ensures value { IfSome result (λ number. bits_of number ≡ up moved 65536) }
     {
@@ -253,7 +247,7 @@ impl Fixed {
     }
 
     /// Adds a sum of deltas and rounds to the nearest value, half up, or returns `None` if that is
-    /// out of range: `round_delta` of `apply_delta`, in 64 bits.
+    /// out of range.
     ///
     /// A delta of 1 is one unit of the raw value, `1 / 65536`.
     ///

@@ -14,7 +14,7 @@ use crate::definitions::font_fixed::{
 
 use super::FixedI16;
 use crate::font_fixed::formats::Format;
-use crate::font_fixed::{F2Dot30, F48Dot16, Fixed, fitting_16, nearest_step, nearest_sum};
+use crate::font_fixed::{F2Dot30, F48Dot16, Fixed, fitting_16, nearest_sum};
 
 /// A signed 2.14 fixed-point number, such as a coordinate of a normalized design space.
 ///
@@ -98,31 +98,8 @@ impl F2Dot14 {
         i128::from(self.0) * 0x1_0000 + i128::from(delta.to_bits())
     }
 
-    /// Rounds a result of `apply_delta` to a value, half up, or returns `None` if that is out of
-    /// range.
-    ///
-    /// ```
-    /// use font_types_proved::{F2Dot14, F48Dot16};
-    /// let moved = F2Dot14::ONE.apply_delta(F48Dot16::from_i32(-3));
-    /// assert_eq!(F2Dot14::round_delta(moved), Some(F2Dot14::from_bits(0x3FFD)));
-    /// ```
-    ///
-    /// <details><summary>Contract</summary>
-    ///
-    /// ```text
-    /// ensures variant { IsSome result ↔ FitsBits 16 (up moved 65536) }
-    /// ensures value { IfSome result (λ number. bits_of number ≡ up moved 65536) }
-    /// ```
-    /// [Notation](crate::definitions): [`FitsBits`], [`up`], [`bits_of`]
-    /// </details>
-    #[must_use]
-    #[inline]
-    pub fn round_delta(moved: i128) -> Option<Self> {
-        Some(Self(i16::try_from(nearest_step(moved)).ok()?))
-    }
-
     /// Adds a sum of deltas and rounds to the nearest value, half up, or returns `None` if that is
-    /// out of range: `round_delta` of `apply_delta`, in 64 bits.
+    /// out of range.
     ///
     /// A delta of 1 is one unit of the raw value, `1 / 16384`.
     ///

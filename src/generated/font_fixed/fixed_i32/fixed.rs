@@ -367,31 +367,15 @@ impl Fixed {
         i128::from(self.0) * 0x1_0000 + i128::from(delta.to_bits())
     }
 
-    /// Rounds a result of `apply_delta` to a value, half up, or returns `None` if that is out of
-    /// range.
-    ///
-    /// ```
-    /// use font_types_proved::{F48Dot16, Fixed};
-    /// let moved = Fixed::ONE.apply_delta(F48Dot16::from_i32(3));
-    /// assert_eq!(Fixed::round_delta(moved), Some(Fixed::from_bits(0x1_0003)));
-    /// ```
-    ///
-    /// <details><summary>Contract</summary>
-    ///
-    /// ```text
-    /// ensures variant { IsSome result ↔ FitsBits 32 (up moved 65536) }
-    /// ensures value { IfSome result (λ number. bits_of number ≡ up moved 65536) }
-    /// ```
-    /// [Notation](crate::definitions): [`FitsBits`], [`up`], [`bits_of`]
-    /// </details>
-    #[must_use]
+    // Rounds a result of `apply_delta` to a value, half up, or returns `None` if that is out of
+    // range.
     #[inline]
-    pub fn round_delta(moved: i128) -> Option<Self> {
+    pub(crate) fn round_delta(moved: i128) -> Option<Self> {
         Some(Self(i32::try_from(nearest_step(moved)).ok()?))
     }
 
     /// Adds a sum of deltas and rounds to the nearest value, half up, or returns `None` if that is
-    /// out of range: `round_delta` of `apply_delta`, in 64 bits.
+    /// out of range.
     ///
     /// A delta of 1 is one unit of the raw value, `1 / 65536`.
     ///

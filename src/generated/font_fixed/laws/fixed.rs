@@ -135,7 +135,7 @@ pub fn scaled_back(x: Fixed, a: Fixed, c: Fixed) -> (Fixed, Fixed) {
     (scaled, scaled.mul_div(c, a))
 }
 
-/// Returns `x.checked_add_delta(delta)`, and `round_delta` of `x.apply_delta(delta)`, which are
+/// Returns `x.checked_add_delta(delta)`, and `x.apply_delta(delta)` rounded half up, which are
 /// equal.
 ///
 /// <details><summary>Contract</summary>
