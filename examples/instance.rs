@@ -11,7 +11,7 @@
 pub mod font;
 
 use font::{Font, advance_of};
-use font_types_proved::{F2Dot14, F48Dot16, Fixed, GlyphId16, Scalar, Tag, UfWord, records};
+use font_types_proved::{ByteRecords, F2Dot14, F48Dot16, Fixed, GlyphId16, Scalar, Tag, UfWord};
 use font_variations_proved::{Avar, DeltaSetIndex, Fvar, Hvar, ItemVariationStore};
 use font_variations_proved::{SegmentMap, SegmentMaps, Setting, VariationAxisRecord};
 
@@ -128,7 +128,7 @@ pub fn metrics(font: &Font<'_>, coordinates: &[F2Dot14]) -> Option<Vec<(Tag, F48
         let set = DeltaSetIndex::from_u32(u32::read_at(record, 4)?);
         Some((Tag::read_at(record, 0)?, instance.delta(set)?))
     };
-    records(mvar, 12, count?, size?)?.map(delta).collect()
+    ByteRecords { offset: 12, count: count?, size: size? }.of(mvar)?.map(delta).collect()
 }
 
 /// The setting that a word is, of an axis that the font has.

@@ -15,7 +15,7 @@
 //! | stored arrays | [`ScalarArray`], [`ScalarArrayIter`], [`ByteChunks`] |
 //! | stored fields | [`Scalar`], [`BigEndian`], [`FixedSize`], [`BeByteArray`], [`IdentityEq`] |
 //! | records of scalars and of arrays of them | [`record!`] |
-//! | records whose size is a field of the table | [`records`] |
+//! | records whose size is a field of the table | [`ByteRecords`] |
 //! | headers of tables | [`TableHeader`], [`TableDataRef`] |
 //! | tags and dates | [`Tag`], [`LongDateTime`] |
 //! | versions | [`MajorMinor`], [`Version16Dot16`], [`Compatible`] |

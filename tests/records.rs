@@ -1,8 +1,8 @@
 //! Records of tables: every field at the offset of the OpenType specification, and back.
 
 use font_types_proved::{
-    F2Dot14, FWord, Fixed, FixedSize, LongDateTime, MajorMinor, NameId, Scalar, ScalarArray,
-    TableDataRef, Tag, record, records,
+    ByteRecords, F2Dot14, FWord, Fixed, FixedSize, LongDateTime, MajorMinor, NameId, Scalar,
+    ScalarArray, TableDataRef, Tag, record,
 };
 
 record! {
@@ -140,14 +140,17 @@ fn records_of_a_size_in_the_table() {
     let (fvar, _) = TableDataRef::<Fvar>::new(&bytes).unwrap().split();
     let start = usize::from(fvar.axes_offset);
     assert_eq!((fvar.axis_size, fvar.instance_size), (axis_size as u16, instance_size as u16));
-    let axes = records(&bytes, start, axis_count, axis_size).unwrap();
+    let axes = ByteRecords { offset: start, count: axis_count, size: axis_size };
     let axes: Vec<_> = axes
+        .of(&bytes)
+        .unwrap()
         .map(|axis| Some((Tag::read_at(axis, 0)?, Fixed::read_at(axis, 8)?.to_i32())))
         .collect::<Option<_>>()
         .unwrap();
     assert_eq!(axes, [(Tag::new(b"wght"), 101), (Tag::new(b"wdth"), 76)]);
     let instances_at = start + axis_count * axis_size;
-    let instances = records(&bytes, instances_at, 3, instance_size).unwrap();
+    let instances = ByteRecords { offset: instances_at, count: 3, size: instance_size };
+    let instances = instances.of(&bytes).unwrap();
     assert_eq!((instances.len(), instances.remainder().len()), (3, 0));
     for (n, instance) in instances.enumerate() {
         let at = ScalarArray::<Fixed>::read_at(instance, 4, axis_count).unwrap();
@@ -155,10 +158,16 @@ fn records_of_a_size_in_the_table() {
         let name = (instance_size >= 6 + 4 * axis_count).then(|| NameId::read_at(instance, 12));
         assert_eq!(name, Some(Some(NameId::new(0x200 + n as u16))));
     }
-    assert!(records(&bytes, instances_at, 4, 16).is_none() && records(&bytes, 0, 1, 0).is_none());
-    assert!(records(&bytes, usize::MAX, 1, 1).is_none());
-    assert!(records(&bytes, 1, usize::MAX, 3).is_none());
-    assert_eq!(records(&bytes, bytes.len(), 0, 5).map(|none| none.len()), Some(0));
+    for (offset, count, size, len) in [
+        (instances_at, 4, 16, None),
+        (0, 1, 0, None),
+        (usize::MAX, 1, 1, None),
+        (1, usize::MAX, 3, None),
+        (bytes.len(), 0, 5, Some(0)),
+    ] {
+        let records = ByteRecords { offset, count, size };
+        assert_eq!(records.of(&bytes).map(|found| found.len()), len, "{records:?}");
+    }
 }
 
 #[test]

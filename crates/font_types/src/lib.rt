@@ -16,8 +16,8 @@ pub mod laws;
 
 pub use delta::{DeltaSum, checked_delta_sum, delta_sum, vary};
 pub use font_base::{
-    BeByteArray, BigEndian, ByteChunks, FixedSize, IdentityEq, Int24, SampleHeader, Scalar,
-    ScalarArray, ScalarArrayIter, TableDataRef, TableHeader, TryFromUint24Error, Uint24, records,
+    BeByteArray, BigEndian, ByteChunks, ByteRecords, FixedSize, IdentityEq, Int24, SampleHeader,
+    Scalar, ScalarArray, ScalarArrayIter, TableDataRef, TableHeader, TryFromUint24Error, Uint24,
 };
 pub use font_decimal::{
     Align, DecimalFault, Pad, Shortest, read_decimal, read_decimal_bytes, write_padded,

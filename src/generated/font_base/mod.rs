@@ -20,6 +20,6 @@ pub use array::{ScalarArray, ScalarArrayIter};
 pub use big_endian::BigEndian;
 pub use int24::Int24;
 pub use raw::{BeByteArray, ByteChunks, FixedSize, IdentityEq, Scalar, SplitsBytes};
-pub use strided::records;
+pub use strided::ByteRecords;
 pub use table_data::{SampleHeader, TableDataRef, TableHeader};
 pub use uint24::{TryFromUint24Error, Uint24};

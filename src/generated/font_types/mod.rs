@@ -15,8 +15,8 @@ mod delta;
 pub mod laws;
 
 pub use crate::font_base::{
-    BeByteArray, BigEndian, ByteChunks, FixedSize, IdentityEq, Int24, SampleHeader, Scalar,
-    ScalarArray, ScalarArrayIter, TableDataRef, TableHeader, TryFromUint24Error, Uint24, records,
+    BeByteArray, BigEndian, ByteChunks, ByteRecords, FixedSize, IdentityEq, Int24, SampleHeader,
+    Scalar, ScalarArray, ScalarArrayIter, TableDataRef, TableHeader, TryFromUint24Error, Uint24,
 };
 pub use crate::font_decimal::{
     Align, DecimalFault, Pad, Shortest, read_decimal, read_decimal_bytes, write_padded,
