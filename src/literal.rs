@@ -1,4 +1,5 @@
-//! Decimal literals, which the compiler checks.
+//! Decimal literals, which the compiler checks, and the length of texts as a constant, which is a
+//! function in Rattle.
 
 use crate::{DecimalFault, FixedI16, FixedI32, FixedI64, Format};
 
@@ -8,6 +9,10 @@ macro_rules! literal {
         where
             Self: Format<$width, F>,
         {
+            /// The length of the longest text of the format: a sign, a point, and the digits before
+            /// and after it.
+            pub const MAX_TEXT_LEN: usize = Self::max_text_len();
+
             /// Returns the value of a decimal literal, as `from_decimal` does. In a constant, what
             /// `from_decimal` refuses does not compile.
             ///

@@ -37,7 +37,7 @@ macro_rules! one_of_each_width {
             for (row, (found, none, right)) in checked.into_iter().enumerate() {
                 assert_eq!((found, none), (Some($Type::from_bits(right)), None), "row {row}");
             }
-            assert_eq!($Type::max_text_len(), $longest);
+            assert_eq!([$Type::max_text_len(), $Type::MAX_TEXT_LEN], [$longest; 2]);
             assert_eq!([x, y, z].map(|n| $Type::from_be_bytes(n.to_be_bytes())), [x, y, z]);
             for text in ["-0", "+1", "--1", "1\0", "\n1", "1/", "1:", "1_0", "\u{661}", "1.5a"] {
                 let right = if text == "-0" { Ok($Type::ZERO) } else { Err(DecimalFault::Syntax) };
@@ -58,8 +58,8 @@ one_of_each_width! {
 
 #[test]
 fn lengths_of_the_longest_texts() {
-    let found = [F4Dot12::max_text_len(), F6Dot10::max_text_len(), F26Dot6::max_text_len()];
-    assert_eq!((found, Fixed::max_text_len()), ([7, 8, 12], 12));
+    let found = [F4Dot12::MAX_TEXT_LEN, F6Dot10::MAX_TEXT_LEN, F26Dot6::MAX_TEXT_LEN];
+    assert_eq!((found, Fixed::MAX_TEXT_LEN), ([7, 8, 12], 12));
 }
 
 /// Returns the raw values whose products and quotients are tested.

@@ -298,8 +298,8 @@ where
         Shortest::new(i64::from(self.0), F)
     }
 
-    /// Returns the length of the longest text of the format: a sign, a point, and the digits before
-    /// and after it.
+    /// Returns `MAX_TEXT_LEN`.
+    #[doc(hidden)]
     pub const fn max_text_len() -> usize
         ensures { result ≡ longest 32 F }
     {
@@ -308,12 +308,12 @@ where
     }
 
     /// Writes the padded decimal to the start of `out` and returns its length, or returns `None`
-    /// and leaves `out` unchanged if it is too short. `max_text_len()` bytes are enough if
+    /// and leaves `out` unchanged if it is too short. `MAX_TEXT_LEN` bytes are enough if
     /// `pad.width` is not greater, and else `pad.width` bytes.
     ///
     /// ```
     /// use font_types::{Fixed, Pad};
-    /// let mut out = [0; Fixed::max_text_len()];
+    /// let mut out = [0; Fixed::MAX_TEXT_LEN];
     /// let len = Fixed::MIN.write_padded(&mut out, &Pad::new(0)).unwrap();
     /// assert_eq!(out[..len], *Fixed::MIN.to_string().as_bytes());
     /// ```

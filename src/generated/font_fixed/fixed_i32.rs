@@ -452,8 +452,7 @@ where
         Shortest::new(i64::from(self.0), F)
     }
 
-    /// Returns the length of the longest text of the format: a sign, a point, and the digits before
-    /// and after it.
+    /// Returns `MAX_TEXT_LEN`.
     ///
     /// <details><summary>Contract</summary>
     ///
@@ -464,18 +463,19 @@ where
     /// </details>
     #[must_use]
     #[inline]
+    #[doc(hidden)]
     pub const fn max_text_len() -> usize {
         let (whole, places) = ((31 - F) * 3 / 10 + 1, F * 3 / 10 + 1);
         (places + 2 + whole) as usize
     }
 
     /// Writes the padded decimal to the start of `out` and returns its length, or returns `None`
-    /// and leaves `out` unchanged if it is too short. `max_text_len()` bytes are enough if
+    /// and leaves `out` unchanged if it is too short. `MAX_TEXT_LEN` bytes are enough if
     /// `pad.width` is not greater, and else `pad.width` bytes.
     ///
     /// ```
     /// use font_types_proved::{Fixed, Pad};
-    /// let mut out = [0; Fixed::max_text_len()];
+    /// let mut out = [0; Fixed::MAX_TEXT_LEN];
     /// let len = Fixed::MIN.write_padded(&mut out, &Pad::new(0)).unwrap();
     /// assert_eq!(out[..len], *Fixed::MIN.to_string().as_bytes());
     /// ```

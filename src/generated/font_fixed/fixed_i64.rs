@@ -448,8 +448,7 @@ where
         Shortest::new(self.0, F)
     }
 
-    /// Returns the length of the longest text of the format: a sign, a point, and the digits before
-    /// and after it.
+    /// Returns `MAX_TEXT_LEN`.
     ///
     /// <details><summary>Contract</summary>
     ///
@@ -460,18 +459,19 @@ where
     /// </details>
     #[must_use]
     #[inline]
+    #[doc(hidden)]
     pub const fn max_text_len() -> usize {
         let (whole, places) = ((63 - F) * 3 / 10 + 1, F * 3 / 10 + 1);
         (places + 2 + whole) as usize
     }
 
     /// Writes the padded decimal to the start of `out` and returns its length, or returns `None`
-    /// and leaves `out` unchanged if it is too short. `max_text_len()` bytes are enough if
+    /// and leaves `out` unchanged if it is too short. `MAX_TEXT_LEN` bytes are enough if
     /// `pad.width` is not greater, and else `pad.width` bytes.
     ///
     /// ```
     /// use font_types_proved::{F48Dot16, Pad};
-    /// let mut out = [0; F48Dot16::max_text_len()];
+    /// let mut out = [0; F48Dot16::MAX_TEXT_LEN];
     /// let len = F48Dot16::MIN.write_padded(&mut out, &Pad::new(0)).unwrap();
     /// assert_eq!(out[..len], *F48Dot16::MIN.to_string().as_bytes());
     /// ```
