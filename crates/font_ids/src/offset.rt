@@ -311,7 +311,8 @@ pub trait OffsetValue: Copy {
     }
 
     /// Returns the bytes from where the offset points, to the end of the table, or `None` if the
-    /// offset is null or past the end.
+    /// offset is null or past the end. A field that may be null is a [`Nullable`], whose `get` is
+    /// `None` if it is: of what `get` returns, `None` here means past the end.
     ///
     /// ```
     /// use font_types::{Offset16, OffsetValue};
