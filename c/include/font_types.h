@@ -137,14 +137,21 @@
 #endif
 #define FTY_API_INLINE FTY_API_STATIC FTY_API_MUST_USE
 #define FTY_API_RUN static inline FTY_API_MUST_USE
+/* The type of an enum, where the language has a place for it. In C++, an enum without one has no
+ * values beyond the highest bit of those that it lists, and a later version may add some. */
+#if defined(__cplusplus) || (defined(__STDC_VERSION__) && __STDC_VERSION__ >= 202311L)
+#define FTY_API_OF_32_BITS : uint32_t
+#else
+#define FTY_API_OF_32_BITS
+#endif
 /** @endcond */
 
 #ifdef __cplusplus
 extern "C" {
 #endif
 
-/** The result of a call that can fail. */
-typedef enum fty_status {
+/** The result of a call that can fail. Later versions may add some. */
+typedef enum fty_status FTY_API_OF_32_BITS {
     FTY_OK = 0,               /**< success: the result was stored */
     FTY_NOT_DECIMAL = 1,      /**< the text is not a decimal */
     FTY_OUT_OF_RANGE = 2,     /**< the result does not fit in its type */
@@ -1218,7 +1225,7 @@ typedef struct fty_buffer {
 enum { FTY_DECIMAL_ROOM = 24 };
 
 /** The alignment of padded text. */
-typedef enum fty_align {
+typedef enum fty_align FTY_API_OF_32_BITS {
     FTY_LEFT = 0,   /**< fill on the right */
     FTY_CENTER = 1, /**< fill on both sides; an odd fill byte goes on the right */
     FTY_RIGHT = 2   /**< fill on the left */
@@ -1407,6 +1414,7 @@ FTY_API_ASSERT(sizeof(fty_fraction) == 4);
 
 #undef FTY_API_NOEXCEPT
 #undef FTY_API_NULL
+#undef FTY_API_OF_32_BITS
 #undef FTY_API_AS
 #undef FTY_API_MOVE
 #undef FTY_API_LOAD

@@ -226,6 +226,9 @@ static void values_of_opentype(void) {
           && memcmp(written + 9, "\x7C\x25\xB0\x80\xB0\x80", 6) == 0);
     STATE(fty_put_bytes(&nearly, tag) == FTY_OUT_OF_BOUNDS && nearly.length == 2);
     STATE(strcmp(fty_status_text((fty_status)9), "unknown status") == 0);
+    /* One that a later version adds: a sanitizer of C++ finds it among the values of its type. */
+    volatile uint32_t later = UINT32_MAX;
+    STATE(strcmp(fty_status_text((fty_status)later), "unknown status") == 0);
     const fty_pad pad = FTY_PAD_INIT(6);
     STATE(pad.width == 6 && pad.fill == ' ' && pad.align == FTY_RIGHT && pad.plus == 0
           && pad.zeros == 0);
