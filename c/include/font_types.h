@@ -887,9 +887,10 @@ FTY_API_INLINE fty_status fty_write_offset32(
  */
 FTY_API_INLINE fty_status fty_checked_round_i16(
     int16_t bits, fty_fraction fraction, int16_t *rounded) FTY_API_NOEXCEPT {
+    int32_t half = 1;
     if (fraction.bits < 6 || fraction.bits > 14)
         return FTY_BAD_FRACTION;
-    const int32_t half = INT32_C(1) << (fraction.bits - 1);
+    half <<= fraction.bits - 1;
     if (bits > INT16_MAX - half)
         return FTY_OUT_OF_RANGE;
     *rounded = FTY_API_AS(int16_t, (bits + half) & -2 * half);
@@ -902,9 +903,10 @@ FTY_API_INLINE fty_status fty_checked_round_i16(
  */
 FTY_API_INLINE fty_status fty_checked_round_i32(
     int32_t bits, fty_fraction fraction, int32_t *rounded) FTY_API_NOEXCEPT {
+    int32_t half = 1;
     if (fraction.bits < 6 || fraction.bits > 30)
         return FTY_BAD_FRACTION;
-    const int32_t half = INT32_C(1) << (fraction.bits - 1);
+    half <<= fraction.bits - 1;
     if (bits > INT32_MAX - half)
         return FTY_OUT_OF_RANGE;
     *rounded = (bits + half) & -2 * half;
@@ -917,9 +919,10 @@ FTY_API_INLINE fty_status fty_checked_round_i32(
  */
 FTY_API_INLINE fty_status fty_checked_round_i64(
     int64_t bits, fty_fraction fraction, int64_t *rounded) FTY_API_NOEXCEPT {
+    int64_t half = 1;
     if (fraction.bits < 6 || fraction.bits > 30)
         return FTY_BAD_FRACTION;
-    const int64_t half = INT64_C(1) << (fraction.bits - 1);
+    half <<= fraction.bits - 1;
     if (bits > INT64_MAX - half)
         return FTY_OUT_OF_RANGE;
     *rounded = (bits + half) & -2 * half;
@@ -1043,9 +1046,10 @@ FTY_API_INLINE int32_t fty_f26dot6_mul(int32_t x, int32_t y) FTY_API_NOEXCEPT {
 FTY_API_INLINE int64_t fty_mul_div_i64(int32_t x, int32_t a, int32_t c) FTY_API_NOEXCEPT {
     const int64_t p = FTY_API_AS(int64_t, x) * a, n = p < 0 ? -p : p;
     const int64_t d = c < 0 ? -FTY_API_AS(int64_t, c) : c;
+    int64_t nearest = 0;
     if (d == 0)
         return (x < 0) != (a < 0) ? -INT32_MAX : INT32_MAX;
-    const int64_t nearest = (n + d / 2) / d;
+    nearest = (n + d / 2) / d;
     return (p < 0) != (c < 0) ? -nearest : nearest;
 }
 

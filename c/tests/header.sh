@@ -180,7 +180,8 @@ for compiler in gcc clang; do
     if command -v "$compiler" >/dev/null; then
         $compiler -O0 -Iinclude "$work/linked.c" -o "$work/linked"
         "$work/linked"
-        $compiler -std=c99 $warnings -Iinclude -fsyntax-only "$work/alone.c"
+        $compiler -std=c99 $warnings -Wdeclaration-after-statement -Iinclude -fsyntax-only \
+            "$work/alone.c"
         $compiler -std=c++11 $warnings -Wold-style-cast -Wzero-as-null-pointer-constant \
             -Iinclude -fsyntax-only -x c++ "$work/alone.c"
     fi
