@@ -8,8 +8,9 @@ import sys
 
 ROOT = pathlib.Path(__file__).resolve().parents[1]
 
-# Each place: a file, and a text of it with the version, its first two numbers, or its hexadecimal
-# digits. In the files of cargo, every `version` is this one.
+# Each place: a file, and a text of it with the version, its first two numbers, what a program is
+# linked with for (0.n, and from 1.0 on the first number), or its hexadecimal digits. In the files
+# of cargo, every `version` is this one.
 OF_CARGO = [
     "Cargo.toml c/Cargo.toml compare/Cargo.toml variations/Cargo.toml",
     "Cargo.lock c/Cargo.lock variations/Cargo.lock",
@@ -17,12 +18,12 @@ OF_CARGO = [
 PLACES = [
     *((path, '\nversion = "{full}"\n') for path in " ".join(OF_CARGO).split()),
     ("variations/Cargo.toml", '{{ path = "..", version = "{full}" }}'),
-    ("c/font_types.map", "FONT_TYPES_{first} {{"),
+    ("c/font_types.map", "FONT_TYPES_{linked} {{"),
     ("c/include/font_types.h", 'FTY_VERSION "{full}"\n'),
     ("c/include/font_types.h", "FTY_VERSION_NUMBER 0x{major}{rest}\n"),
     ("c/README.md", "find_package(font_types {first} CONFIG"),
-    ("c/README.md", "`FONT_TYPES_{first}`"),
-    ("c/README.md", "`libfont-types{first}`"),
+    ("c/README.md", "`FONT_TYPES_{linked}`"),
+    ("c/README.md", "`libfont-types{linked}`"),
     ("crates/font_c/src/version.rt", "ensures {{ result ≡ 0x{major}_{rest} }}"),
     ("crates/font_c/src/version.rt", "\n    0x{major}_{rest}\n"),
 ]
@@ -38,7 +39,8 @@ def shown(form: str, version: str) -> str:
     """Returns the text of a place for a version."""
     major, minor, patch = map(int, version.split("."))
     first, rest = f"{major}.{minor}", f"{minor:02X}{patch:02X}"
-    return form.format(full=version, first=first, major=f"{major:02X}", rest=rest)
+    digits, linked = f"{major:02X}", first if major == 0 else str(major)
+    return form.format(full=version, first=first, linked=linked, major=digits, rest=rest)
 
 
 def wrong() -> list[str]:

@@ -36,10 +36,23 @@ sed -i.kept 's/^version = .*/version = "9.8.7"/' Cargo.toml
 LIBDIR='/a&b|c' make -s install DESTDIR="$work/next" PREFIX=/usr
 mv Cargo.toml.kept Cargo.toml
 next="$work/next/a&b|c"
-is "$(readlink -e "$next/libfont_types.so.9.8")" "$next/libfont_types.so.9.8.7"
+is "$(readlink -e "$next/libfont_types.so.9")" "$next/libfont_types.so.9.8.7"
 is "$(grep 'libdir=\|Version' "$next/pkgconfig/font_types.pc")" \
     $'libdir=/a&b|c\nVersion: 9.8.7'
-grep 'N 9.8.7)$' "$next/cmake/font_types/font_types-config-version.cmake" >/dev/null
+# Asked for a version from 1.0 on, CMake takes it and later ones with its first number.
+if command -v cmake >/dev/null; then
+    for asked in '9 TRUE' '9.7 TRUE' '9.8 TRUE' '9.8.7 TRUE' '9.8.8 ' '9.9 ' '8 ' '10 ' '0.9 '; do
+        read -r asked answer <<<"$asked"
+        IFS=. read -r major _ <<<"$asked"
+        {
+            echo "set(PACKAGE_FIND_VERSION $asked)"
+            echo "set(PACKAGE_FIND_VERSION_MAJOR $major)"
+            cat "$next/cmake/font_types/font_types-config-version.cmake"
+            echo 'message("[${PACKAGE_VERSION_COMPATIBLE}]")'
+        } >"$work/asked.cmake"
+        is "$(cmake -P "$work/asked.cmake" 2>&1)" "[$answer]" "$asked of 9.8.7"
+    done
+fi
 
 # The tools that variables name, and the folders that are removed.
 commands=$(CARGO=a-cargo CARGOFLAGS=--a-flag CC=a-cc LDFLAGS=--b-flag AR=an-ar BUILD=a-folder \
