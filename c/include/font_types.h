@@ -60,9 +60,9 @@
  * Pointers must be valid for the length that goes with them (1 for a single value),
  * aligned, and not null, even if the call fails. A pointer whose length is 0 may be
  * null (this is tested, not proved). What a call writes must not overlap its other
- * arguments, except the view that is copied. Strings are bytes with a length: a terminating
- * NUL is not needed, and none is written, so print them by "%.*s". Functions allocate
- * nothing, keep nothing between calls and may be called from any thread.
+ * arguments, except the view that is copied. Strings are bytes with a length, and a terminating
+ * NUL is not needed; after a text that is written comes a NUL if the buffer has room for it.
+ * Functions allocate nothing, keep nothing between calls and may be called from any thread.
  *
  * What a call writes may be uninitialized. The library is Rust, which asks for initialized
  * values there: callers rely on its object code, which loads nothing from where it writes
@@ -1225,7 +1225,7 @@ typedef struct fty_buffer {
     size_t room; /**< how many bytes the buffer has */
 } fty_buffer;
 
-/** Room for a decimal, which has at most 22 bytes, and for a NUL, which is not written. */
+/** Room for a decimal, which has at most 22 bytes, and for a NUL. */
 enum { FTY_DECIMAL_ROOM = 24 };
 
 /** The alignment of padded text. */
@@ -1254,6 +1254,16 @@ FTY_API_MUST_USE fty_status fty_api_format(
 FTY_API_MUST_USE fty_status fty_api_format_padded(
     int64_t bits, fty_fraction fraction, const fty_pad *pad, char *out, size_t room,
     size_t *length) FTY_API_NOEXCEPT;
+/* Stores the length of a text that was written, and ends it by a NUL if there is room. */
+FTY_API_RUN fty_status fty_api_end(
+    fty_status status, fty_buffer out, size_t written, size_t *length) FTY_API_NOEXCEPT {
+    if (status != FTY_OK)
+        return status;
+    if (written < out.room)
+        out.text[written] = 0;
+    *length = written;
+    return FTY_OK;
+}
 /** @endcond */
 
 /**
@@ -1263,17 +1273,23 @@ FTY_API_MUST_USE fty_status fty_api_format_padded(
  */
 FTY_API_RUN fty_status fty_format(
     int64_t bits, fty_fraction fraction, fty_buffer out, size_t *length) FTY_API_NOEXCEPT {
-    return fty_api_format(bits, fraction, out.text, out.room, length);
+    size_t written = 0;
+    const fty_status status = fty_api_format(bits, fraction, out.text, out.room, &written);
+    return fty_api_end(status, out, written, length);
 }
 
 /**
- * As fty_format, padded. Room for `width` bytes is enough, or for 22 if that is more.
+ * As fty_format, padded. Room for `width` bytes is enough, or for 22 if that is more; the NUL
+ * comes after them.
  * Fails by FTY_BAD_FRACTION, FTY_BAD_PAD, FTY_BUFFER_TOO_SMALL.
  */
 FTY_API_RUN fty_status fty_format_padded(
     int64_t bits, fty_fraction fraction, const fty_pad *pad, fty_buffer out,
     size_t *length) FTY_API_NOEXCEPT {
-    return fty_api_format_padded(bits, fraction, pad, out.text, out.room, length);
+    size_t written = 0;
+    const fty_status status = fty_api_format_padded(
+        bits, fraction, pad, out.text, out.room, &written);
+    return fty_api_end(status, out, written, length);
 }
 
 /* ---- the functions of three formats, with their types and fraction bits ---- */
@@ -1339,7 +1355,7 @@ FTY_API_RUN fty_status fty_f26dot6_format_padded(
     (((A) & 0xFF) * UINT32_C(0x1000000) + ((B) & 0xFF) * UINT32_C(0x10000) \
      + ((C) & 0xFF) * UINT32_C(0x100) + ((D) & 0xFF))
 
-/** Room for the text of a tag, which has at most 24 bytes, and for a NUL, which is not written. */
+/** Room for the text of a tag, which has at most 24 bytes, and for a NUL. */
 enum { FTY_TAG_ROOM = 25 };
 
 /**
@@ -1367,7 +1383,9 @@ FTY_API_MUST_USE fty_status fty_api_tag_to_text(
  */
 FTY_API_RUN fty_status fty_tag_to_text(
     uint32_t tag, fty_buffer out, size_t *length) FTY_API_NOEXCEPT {
-    return fty_api_tag_to_text(tag, out.text, out.room, length);
+    size_t written = 0;
+    const fty_status status = fty_api_tag_to_text(tag, out.text, out.room, &written);
+    return fty_api_end(status, out, written, length);
 }
 
 /* ---- statuses and the version ---- */

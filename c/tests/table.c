@@ -76,8 +76,9 @@ typedef struct result parser(const char *, size_t, uint32_t);
 
 /* What is written is at most `room` bytes of this, after which none is changed. */
 static char out[BUFFER];
+static size_t given;
 static fty_buffer to(size_t room) {
-    const fty_buffer buffer = {out, room};
+    const fty_buffer buffer = {out, given = room};
     return buffer;
 }
 
@@ -87,11 +88,13 @@ RESULT(padded, size_t, (int64_t bits, uint32_t f, const fty_pad *pad, size_t roo
        fty_format_padded(bits, FTY_FRACTION(f), pad, to(room), &place))
 RESULT(tag_text, size_t, (uint32_t tag, size_t room), fty_tag_to_text(tag, to(room), &place))
 
-/* Checks a text that was written to `out`, and the error with too little room. */
+/* Checks a text that was written to `out`, its NUL, and the error with too little room. */
 static void check_written(const char *table, size_t row, struct result found, const char *text) {
     const size_t length = strlen(text);
     check_result(table, row, found, FTY_OK, (int64_t)length);
-    check(table, row, memcmp(out, text, length) == 0 && out[length] == KEPT, 1);
+    check(table, row, memcmp(out, text, length) == 0, 1);
+    check(table, row, out[length], length < given ? 0 : KEPT);
+    check(table, row, out[length + 1], KEPT);
     memset(out, KEPT, sizeof out);
 }
 

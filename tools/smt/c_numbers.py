@@ -3,7 +3,7 @@
 import z3
 from z3 import BitVecRef
 
-from c_row import BAD_FRACTION, OUT_OF_RANGE, always, fallible, row, status
+from c_row import BAD_FRACTION, KEPT, OUT_OF_RANGE, always, fallible, row, status
 from cases import Rule
 from rules import N, Products, S, U, fits, near, together, up, whole, wrap
 from values import constant
@@ -117,17 +117,17 @@ static fty_status sees(int kind, uint64_t a, uint64_t b, uint64_t c, uint64_t d,
     return (fty_status)kind;
 }
 fty_status fty_api_format(int64_t bits, fty_fraction f, char *out, size_t room, size_t *length) {
-    *length = 1;
-    return sees(1, bits, f.bits, room, 0, out);
+    *length = 8;
+    return sees(1, bits, f.bits, room, 0, out) * (room & 1);
 }
 fty_status fty_api_format_padded(int64_t bits, fty_fraction f, const fty_pad *pad, char *out,
                                  size_t room, size_t *length) {
-    *length = 2;
-    return sees(2, bits, f.bits, room, pad->width, out);
+    *length = 9;
+    return sees(2, bits, f.bits, room, pad->width, out) * (room & 1);
 }
 fty_status fty_api_tag_to_text(uint32_t tag, char *out, size_t room, size_t *length) {
-    *length = 3;
-    return sees(3, tag, 0, room, 0, out);
+    *length = 10;
+    return sees(3, tag, 0, room, 0, out) * (room & 1);
 }
 fty_status fty_api_delta_sum(const int32_t *x, size_t n, const int32_t *y, size_t m, int64_t *sum) {
     return sees(4, *x, *y, n, m, sum);
@@ -140,14 +140,21 @@ fty_status fty_api_delta_set_sum(const int32_t *x, size_t n, const uint8_t *y, s
 
 
 def written(name: str, of: str, call: str, kind: int, total: Rule) -> None:
-    """A function that writes text: it hands on each argument, and what the export returns."""
-    start = "({ char text[8]; const fty_buffer out = {text, n}; size_t length; uint64_t it;"
+    """A function that writes text: it hands on each argument, and what the export returns, which
+    fails here if the room is odd. Else it ends the text, here of 7 bytes and the kind."""
+    end = 7 + kind
+    start = "({ char text[16]; const fty_buffer out = {text, n}; size_t length; uint64_t it;"
     row(name, f"n: size, {of}", "u64", f"{start} (void)!{call};"
         " __builtin_memcpy(&it, text, 8); it; })",
         lambda p, n, *given: wrap(64, 7 * U(n) + total(*given)))
-    always(f"{name}, status and length", f"n: size, {of}", "u32",
-           f"{start} const uint32_t found = (uint32_t){call}; found << 8 | (uint32_t)length; }})",
-           kind << 8 | kind)
+    row(f"{name}, status and length", f"n: size, {of}", "u32",
+        f"{start} length = {KEPT};"
+        f" const uint32_t found = (uint32_t){call}; found << 8 | (uint32_t)length; }})",
+        lambda p, n, *_: z3.If(n & 1 == 1, constant(kind << 8 | KEPT, 32), constant(end, 32)))
+    row(f"{name}, end", f"n: size, {of}", "u8",
+        f"{start} text[{end}] = {KEPT}; (void)!{call}; (uint8_t)text[{end}]; }})",
+        lambda p, n, *_: z3.If(z3.And(n & 1 == 0, z3.UGT(n, end)), constant(0, 8),
+                               constant(KEPT, 8)))
 
 
 for T, w, f in (("fixed", 32, 16), ("f2dot14", 16, 14), ("f26dot6", 32, 6)):
