@@ -15,7 +15,7 @@
  *                   fty_poke_{u16,u24,u32,u64}
  *     written       fty_write_{u8,i8,u16,i16,u24,u32,i32,i64,uint,bytes,offset16,offset24,offset32}
  *       in turn     fty_put_{u8,i8,u16,i16,u24,u32,i32,i64,bytes,zeros_to_4}  fty_reserve
- *                   fty_span_from
+ *                   fty_span_from  fty_written
  *     rounding      fty_checked_round_{i16,i32,i64}  fty_f26dot6_{floor,ceil,round}
  *                   fty_fixed_{floor,ceil,round,round_away}
  *     conversions   fty_fixed_to_{i32,f26dot6,f2dot14}  fty_f26dot6_to_i32  fty_fixed_from_i32
@@ -695,6 +695,19 @@ FTY_API_INLINE fty_span fty_reserve(fty_span *rest, size_t length) FTY_API_NOEXC
     part.bytes = rest->bytes;
     part.length = length;
     *rest = after;
+    return part;
+}
+
+/**
+ * What is written of a table, of which the span is the rest: its length is where the rest begins.
+ * Absent unless the span is the end of the table, as the rest of it is.
+ */
+FTY_API_INLINE fty_view fty_written(fty_span table, fty_span rest) FTY_API_NOEXCEPT {
+    fty_view part = fty_absent();
+    if (!fty_api_ends(table, rest))
+        return part;
+    part.bytes = table.bytes;
+    part.length = table.length - rest.length;
     return part;
 }
 

@@ -157,6 +157,7 @@ static void values_of_opentype(void) {
           && fty_write_offset16(gsub, 6, rest) == FTY_OK
           && fty_reserve(&rest, 9).bytes == NULL && fty_reserve(&rest, 8).length == 8
           && fty_write_offset16(gsub, 8, rest) == FTY_OK && fty_reserve(&rest, 0).bytes != NULL
+          && fty_written(gsub, rest).length == 24 && fty_u16(fty_written(gsub, rest), 8) == 24
           && memcmp(lists, "\0\1\0\0\0\xA\0\x10\0\x18\0\0\t\0\0\0\7\7\7\7\7\7\7\7", 24) == 0);
     STATE(fty_write_offset16(gsub, 4, gsub) == FTY_OUT_OF_RANGE
           && fty_write_offset16(gsub, 23, rest) == FTY_OUT_OF_BOUNDS
@@ -171,6 +172,8 @@ static void values_of_opentype(void) {
     STATE(fty_put_zeros_to_4(&last, three) == FTY_OUT_OF_BOUNDS && last.length == 2
           && fty_put_zeros_to_4(&other, gsub) == FTY_OUT_OF_BOUNDS && other.length == 4
           && fty_span_from(three, 4).bytes == NULL && fty_span_from(three, 3).bytes == lists + 3);
+    STATE(fty_written(three, last).length == 1 && fty_written(three, last).bytes == lists
+          && fty_written(last, three).bytes == NULL && fty_written(gsub, other).bytes == NULL);
     uint16_t kept = KEPT;
     STATE(fty_read_u16(subtable, 17, &kept) == FTY_OUT_OF_BOUNDS && kept == KEPT);
     STATE(fty_fixed_from_i32(-1000) == -65536000 && fty_fixed_sub(1000, 400) == 600

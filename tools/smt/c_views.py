@@ -285,6 +285,21 @@ row("put_zeros_to_4, before", "text: room, from: size", "u32",
     f"({{ {REST} (uint32_t)fty_put_zeros_to_4(&rest, fty_span_from(span, from)); }})",
     lambda p, text, start, result, after: z3.And(
         is_kept(text, after), result == status(start == 0)), True)
+for name, it, then in (
+    ("place", "it.bytes == NULL ? UINT64_MAX : (uint64_t)(" + SPANNED.format("it") + ")",
+     lambda start, is_end: z3.If(is_end, ZERO, ABSENT)),
+    ("length", "(uint64_t)it.length", lambda start, is_end: z3.If(is_end, start, ZERO)),
+):
+    row(f"written, {name}", "text: room, from: size, n: size", "u64",
+        PART % f"const fty_view it = fty_written(span, part); {it}",
+        lambda p, text, start, n, then=then: z3.If(
+            z3.And(z3.ULE(start, text.length), z3.ULE(n, text.length - start)),
+            then(start, n == text.length - start), constant(OUT_OF_BOUNDS)))
+row("written, before", "text: room, from: size", "u64",
+    "fty_written(fty_span_from(span, from), span).length", lambda p, text, start: ZERO)
+always("written, absent", "x: u8", "bool",
+       "({ const fty_span rest = {NULL, 0}; const fty_view it = fty_written(rest, rest);"
+       f" {IS_ABSENT.format('it')}; }})", 1)
 always("put_zeros_to_4, absent", "x: u8", "bool",
        f"({{ fty_span rest = {{NULL, 0}}; fty_put_zeros_to_4(&rest, rest) == {OUT_OF_BOUNDS}"
        f" && {IS_ABSENT.format('rest')}; }})", 1)
