@@ -19,7 +19,7 @@
  *     rounding      fty_checked_round_{i16,i32,i64}  fty_f26dot6_{floor,ceil,round}
  *                   fty_fixed_{floor,ceil,round,round_away}
  *     conversions   fty_fixed_to_{i32,f26dot6,f2dot14}  fty_f26dot6_to_i32  fty_fixed_from_i32
- *                   fty_f48dot16_to_{i64,fixed}  fty_f2dot30_to_{fixed,f2dot14}
+ *                   fty_f48dot16_{to_i64,checked_to_fixed}  fty_f2dot30_to_{fixed,f2dot14}
  *     arithmetic    fty_fixed_{add,sub,mul}  fty_f26dot6_mul  fty_mul_div_i64
  *     others        fty_delta_set_length  fty_status_text  FTY_TAG
  *
@@ -981,7 +981,8 @@ FTY_API_INLINE int32_t fty_f26dot6_round(int32_t x) FTY_API_NOEXCEPT {
 
 /* ---- conversions to fewer fraction bits, half up; those to as many or more are C, as `bits * 4`
  *      from 2.14 to 16.16, `units * INT64_C(65536)` from font units to 48.16, `(int32_t)bits`
- *      from 48.16 to 16.16, which wraps, fty_f48dot16_to_fixed and fty_fixed_from_i32 ---- */
+ *      from 48.16 to 16.16, which wraps, fty_f48dot16_checked_to_fixed and fty_fixed_from_i32
+ *      ---- */
 
 /** @cond */
 /* A number of two's complement, by its bits and the weight of its sign. */
@@ -1097,7 +1098,7 @@ FTY_API_INLINE int32_t fty_fixed_from_i32(int32_t x) FTY_API_NOEXCEPT {
 }
 
 /** 48.16 to the same number in 16.16, or FTY_OUT_OF_RANGE; `(int32_t)bits` wraps. */
-FTY_API_INLINE fty_status fty_f48dot16_to_fixed(
+FTY_API_INLINE fty_status fty_f48dot16_checked_to_fixed(
     int64_t bits, int32_t *fixed) FTY_API_NOEXCEPT {
     if (bits < INT32_MIN || bits > INT32_MAX)
         return FTY_OUT_OF_RANGE;

@@ -200,8 +200,8 @@ static void values_of_opentype(void) {
     STATE(fty_fixed_round(INT32_MAX) == INT32_MIN && fty_fixed_round_away(65535) == 65536);
     STATE(fty_f26dot6_ceil(-64) == -64 && fty_f26dot6_ceil(INT32_MAX) == INT32_MIN
           && fty_f26dot6_round(INT32_MAX) == INT32_MIN);
-    STATE(fty_f48dot16_to_fixed(INT32_MIN, &of_32) == FTY_OK && of_32 == INT32_MIN);
-    STATE(fty_f48dot16_to_fixed(INT32_MAX, &of_32) == FTY_OK && of_32 == INT32_MAX);
+    STATE(fty_f48dot16_checked_to_fixed(INT32_MIN, &of_32) == FTY_OK && of_32 == INT32_MIN);
+    STATE(fty_f48dot16_checked_to_fixed(INT32_MAX, &of_32) == FTY_OK && of_32 == INT32_MAX);
     /* Ties, and the greatest values, which wrap; 0.6 of 2.30. */
     STATE(fty_fixed_to_i32(-98304) == -1 && fty_fixed_to_i32(INT32_MAX) == -32768);
     STATE(fty_fixed_to_f26dot6(512) == 1 && fty_fixed_to_f26dot6(INT32_MAX) == -2097152);

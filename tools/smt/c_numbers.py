@@ -58,7 +58,7 @@ for name, w, k, to, out in (
 ):
     row(name, f"x: i{w}", f"i{out}", f"fty_{name}(x)",
         lambda p, x, k=k, to=to, out=out: wrap(to, up(S(x), k), out))
-fallible("f48dot16_to_fixed", "x: i64", "i32", "fty_f48dot16_to_fixed(x, &it)",
+fallible("f48dot16_checked_to_fixed", "x: i64", "i32", "fty_f48dot16_checked_to_fixed(x, &it)",
          lambda p, x: (status(fits(32, S(x)), OUT_OF_RANGE), wrap(32, S(x))))
 
 
