@@ -30,7 +30,7 @@
  *     deltas        fty_delta_{sum,set_sum}  fty_checked_add_delta_{i16,u16}
  *     decimals      fty_parse_{i16,i32,i64}  fty_{format,format_padded}
  *                   fty_{fixed,f2dot14,f26dot6}_{parse,format,format_padded}
- *     tags          fty_tag_{new_checked,validate,to_text}
+ *     tags          fty_tag_{parse,validate,format}
  *     version       fty_version
  *
  * Each function that the library exports has a contract that is proved; its comment states it.
@@ -164,7 +164,7 @@ typedef enum fty_status FTY_API_OF_32_BITS {
     /* 9 was the status of delta sets with deltas of 32 bits until 0.4 */
     FTY_TAG_LENGTH = 10,      /**< not 1 to 4 bytes; from fty_tag_validate: four spaces */
     FTY_TAG_BYTE = 11,        /**< a byte outside 0x20 to 0x7E, or a leading space; from
-                                   fty_tag_new_checked also a printable byte after a space */
+                                   fty_tag_parse also a printable byte after a space */
     FTY_TAG_AFTER_SPACE = 12  /**< from fty_tag_validate: a printable byte after a space */
 } fty_status;
 
@@ -1373,10 +1373,10 @@ FTY_API_RUN fty_status fty_f26dot6_format_padded(
 enum { FTY_TAG_ROOM = 25 };
 
 /**
- * Creates a valid tag from one to four bytes, padding with spaces.
+ * Parses a valid tag of one to four bytes, padding with spaces.
  * Fails by FTY_TAG_LENGTH, FTY_TAG_BYTE.
  */
-FTY_API_MUST_USE fty_status fty_tag_new_checked(
+FTY_API_MUST_USE fty_status fty_tag_parse(
     const char *text, size_t length, uint32_t *tag) FTY_API_NOEXCEPT;
 
 /**
@@ -1387,18 +1387,18 @@ FTY_API_MUST_USE fty_status fty_tag_new_checked(
 FTY_API_MUST_USE fty_status fty_tag_validate(uint32_t tag, uint32_t *position) FTY_API_NOEXCEPT;
 
 /** @cond */
-FTY_API_MUST_USE fty_status fty_api_tag_to_text(
+FTY_API_MUST_USE fty_status fty_api_tag_format(
     uint32_t tag, char *out, size_t room, size_t *length) FTY_API_NOEXCEPT;
 /** @endcond */
 
 /**
- * Writes the text of a tag: bytes 0x20 to 0x7E as they are, else {0xNN}.
+ * Writes the text of a tag, which need not be valid: bytes 0x20 to 0x7E as they are, else {0xNN}.
  * Fails by FTY_BUFFER_TOO_SMALL.
  */
-FTY_API_RUN fty_status fty_tag_to_text(
+FTY_API_RUN fty_status fty_tag_format(
     uint32_t tag, fty_buffer out, size_t *length) FTY_API_NOEXCEPT {
     size_t written = 0;
-    const fty_status status = fty_api_tag_to_text(tag, out.text, out.room, &written);
+    const fty_status status = fty_api_tag_format(tag, out.text, out.room, &written);
     return fty_api_end(status, out, written, length);
 }
 

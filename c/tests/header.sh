@@ -27,7 +27,7 @@ listed() {
         grep -o 'fty_[a-z0-9_{},]*' | tr '\n' ' ')" | sort -u
 }
 calling=$(printf '%s\n' fty_{fixed,f2dot14,f26dot6}_{parse,format,format_padded} \
-    fty_{format,format_padded,tag_to_text,delta_sum,delta_set_sum} | sort)
+    fty_{format,format_padded,tag_format,delta_sum,delta_set_sum} | sort)
 public=$(grep -v '^fty_api_' <<<"$declared")
 is "$(listed 'In C, in' 'Calls of')" "$(comm -23 <(echo "$inline") <(echo "$calling"))" \
     'at the head, "In C"' "$declares"

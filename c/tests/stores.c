@@ -66,10 +66,10 @@ static void make_tags(void) {
         text[i] = (char)(0x1E + any() % 0x60);
     uint32_t tag = (uint32_t)any();
     tag = any() % 2 == 0 ? tag : (tag & 0x3F3F3F3F) | 0x20202020;
-    results += fty_tag_new_checked(text, any() % 6, (uint32_t *)place(4));
+    results += fty_tag_parse(text, any() % 6, (uint32_t *)place(4));
     results += fty_tag_validate(tag, (uint32_t *)place(4));
     const fty_buffer out = {(char *)place(25), any() % 26};
-    results += fty_tag_to_text(tag, out, (size_t *)place(8));
+    results += fty_tag_format(tag, out, (size_t *)place(8));
 }
 
 int main(int count, char **arguments) {

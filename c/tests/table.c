@@ -86,7 +86,7 @@ RESULT(formatted, size_t, (int64_t bits, uint32_t f, size_t room),
        fty_format(bits, FTY_FRACTION(f), to(room), &place))
 RESULT(padded, size_t, (int64_t bits, uint32_t f, const fty_pad *pad, size_t room),
        fty_format_padded(bits, FTY_FRACTION(f), pad, to(room), &place))
-RESULT(tag_text, size_t, (uint32_t tag, size_t room), fty_tag_to_text(tag, to(room), &place))
+RESULT(tag_text, size_t, (uint32_t tag, size_t room), fty_tag_format(tag, to(room), &place))
 
 /* Checks a text that was written to `out`, its NUL, and the error with too little room. */
 static void check_written(const char *table, size_t row, struct result found, const char *text) {
@@ -400,7 +400,7 @@ static void check_lengths(void) {
 /* ---- tags ---- */
 
 RESULT(new_tag, uint32_t, (const char *text, size_t length),
-       fty_tag_new_checked(text, length, &place))
+       fty_tag_parse(text, length, &place))
 RESULT(validated, uint32_t, (uint32_t tag), fty_tag_validate(tag, &place))
 
 static void check_tags(void) {
@@ -432,7 +432,7 @@ static void check_nulls(void) {
     check("null out", 0, fty_format(0, FTY_FIXED, none, &length), FTY_BUFFER_TOO_SMALL);
     check("null out", 1, fty_format_padded(0, FTY_FIXED, &pad, none, &length),
           FTY_BUFFER_TOO_SMALL);
-    check("null out", 2, fty_tag_to_text(0, none, &length), FTY_BUFFER_TOO_SMALL);
+    check("null out", 2, fty_tag_format(0, none, &length), FTY_BUFFER_TOO_SMALL);
     check("null out", 3, (int64_t)length, KEPT);
     check_result("null deltas", 0, sum_of_deltas(of(NULL, 0), of(NULL, 0)), FTY_OK, 0);
     check_result("null set", 0, sum_of_set(of(NULL, 0), bytes(NULL, 0), 0), FTY_OK, 0);

@@ -125,7 +125,7 @@ fty_status fty_api_format_padded(int64_t bits, fty_fraction f, const fty_pad *pa
     *length = 9;
     return sees(2, bits, f.bits, room, pad->width, out) * (room & 1);
 }
-fty_status fty_api_tag_to_text(uint32_t tag, char *out, size_t room, size_t *length) {
+fty_status fty_api_tag_format(uint32_t tag, char *out, size_t room, size_t *length) {
     *length = 10;
     return sees(3, tag, 0, room, 0, out) * (room & 1);
 }
@@ -174,7 +174,7 @@ written("format", "x: i64, f: u32", "fty_format(x, FTY_FRACTION(f), out, &length
 written("format_padded", "x: i64, f: u32, m: size", "({ const fty_pad pad = FTY_PAD_INIT(m);"
         " fty_format_padded(x, FTY_FRACTION(f), &pad, out, &length); })", 2,
         lambda x, f, m: 3 * S(x) + 5 * U(f) + 9 * U(m))
-written("tag_to_text", "x: u32", "fty_tag_to_text(x, out, &length)", 3, lambda x: 3 * U(x))
+written("tag_format", "x: u32", "fty_tag_format(x, out, &length)", 3, lambda x: 3 * U(x))
 for name, of, value, given, words, kind in (
     ("delta_sum", "fty_numbers", "int32_t", "y: i32", "", 4),
     ("delta_set_sum", "fty_view", "uint8_t", "y: u8, z: u16", "z, ", 5),

@@ -76,7 +76,7 @@ def new_tag(p: Any, text: Text, old: BitVecRef) -> BitVecRef:
 
 
 stores("fty_tag_validate(tag, &mut old)", "tag: u32", "u32", validate)
-stores("fty_tag_new_checked(text.as_ptr(), text.len(), &mut old)", "text: bytes", "u32", new_tag)
+stores("fty_tag_parse(text.as_ptr(), text.len(), &mut old)", "text: bytes", "u32", new_tag)
 
 matrix = lambda of: "FontMatrix { " + ", ".join(f"{it}: {of}{it}" for it in ENTRIES) + " }"
 both = "(it.{} as u32 as u64) << 32 | it.{} as u32 as u64"

@@ -10,9 +10,9 @@ use crate::status::{OK, TAG_AFTER_SPACE, TAG_BYTE, TAG_LENGTH};
 use crate::tag_text::TagText;
 use font_types::{InvalidTag, Scalar, Tag};
 
-/// Creates a valid tag from one to four bytes, padding with spaces.
+/// Parses a valid tag of one to four bytes, padding with spaces.
 #[unsafe(no_mangle)]
-pub extern "C" fn fty_tag_new_checked(text: &[u8], tag: &mut u32) -> u32
+pub extern "C" fn fty_tag_parse(text: &[u8], tag: &mut u32) -> u32
     ensures { StoresTag text.now result tag.old tag.new }
 {
     match Tag::new_checked(text) {
@@ -47,7 +47,7 @@ pub extern "C" fn fty_tag_validate(tag: u32, position: &mut u32) -> u32
 /// Writes the text of a tag to the start of `out`, and its length to `written`. Bytes from 0x20 to
 /// 0x7E are written as they are, others as `{0xNN}`.
 #[unsafe(no_mangle)]
-pub extern "C" fn fty_api_tag_to_text(tag: u32, out: &mut [u8], written: &mut usize) -> u32
+pub extern "C" fn fty_api_tag_format(tag: u32, out: &mut [u8], written: &mut usize) -> u32
     ensures text { WritesText (tag_text (number_bytes tag)) result written.old written.new out.old
         out.new }
     ensures enough { 24 ≤ length out.old → result ≡ 0 }

@@ -7,13 +7,9 @@ use crate::font_c::status::{OK, TAG_AFTER_SPACE, TAG_BYTE, TAG_LENGTH};
 use crate::font_c::tag_text::TagText;
 use crate::font_types::{InvalidTag, Scalar, Tag};
 
-/// Creates a valid tag from one to four bytes, padding with spaces.
+/// Parses a valid tag of one to four bytes, padding with spaces.
 #[unsafe(no_mangle)]
-pub unsafe extern "C" fn fty_tag_new_checked(
-    text: *const u8,
-    text_len: usize,
-    tag: &mut u32,
-) -> u32 {
+pub unsafe extern "C" fn fty_tag_parse(text: *const u8, text_len: usize, tag: &mut u32) -> u32 {
     let text = unsafe { crate::slice(text, text_len) };
     match Tag::new_checked(text) {
         Ok(good) => {
@@ -45,7 +41,7 @@ pub unsafe extern "C" fn fty_tag_validate(tag: u32, position: &mut u32) -> u32 {
 /// Writes the text of a tag to the start of `out`, and its length to `written`. Bytes from 0x20 to
 /// 0x7E are written as they are, others as `{0xNN}`.
 #[unsafe(no_mangle)]
-pub unsafe extern "C" fn fty_api_tag_to_text(
+pub unsafe extern "C" fn fty_api_tag_format(
     tag: u32,
     out: *mut u8,
     out_len: usize,
