@@ -1384,7 +1384,7 @@ FTY_API_MUST_USE fty_status fty_tag_parse(
  * spaces; else by FTY_TAG_BYTE or FTY_TAG_AFTER_SPACE, by what is wrong with the first
  * invalid byte, whose index, 0 to 3, is stored. (OTS's CheckTag also takes a space anywhere.)
  */
-FTY_API_MUST_USE fty_status fty_tag_validate(uint32_t tag, uint32_t *position) FTY_API_NOEXCEPT;
+FTY_API_MUST_USE fty_status fty_tag_validate(uint32_t tag, size_t *index) FTY_API_NOEXCEPT;
 
 /** @cond */
 FTY_API_MUST_USE fty_status fty_api_tag_format(

@@ -67,7 +67,7 @@ static void make_tags(void) {
     uint32_t tag = (uint32_t)any();
     tag = any() % 2 == 0 ? tag : (tag & 0x3F3F3F3F) | 0x20202020;
     results += fty_tag_parse(text, any() % 6, (uint32_t *)place(4));
-    results += fty_tag_validate(tag, (uint32_t *)place(4));
+    results += fty_tag_validate(tag, (size_t *)place(8));
     const fty_buffer out = {(char *)place(25), any() % 26};
     results += fty_tag_format(tag, out, (size_t *)place(8));
 }

@@ -401,7 +401,7 @@ static void check_lengths(void) {
 
 RESULT(new_tag, uint32_t, (const char *text, size_t length),
        fty_tag_parse(text, length, &place))
-RESULT(validated, uint32_t, (uint32_t tag), fty_tag_validate(tag, &place))
+RESULT(validated, size_t, (uint32_t tag), fty_tag_validate(tag, &place))
 
 static void check_tags(void) {
     check_result("new", 0, new_tag("cvt", 3), FTY_OK, 0x63767420);
@@ -409,11 +409,11 @@ static void check_tags(void) {
     check_result("new", 2, new_tag("a b ", 4), FTY_TAG_BYTE, 0);
     check_result("validated", 0, validated(0x63767420), FTY_OK, KEPT);
     check_result("validated", 1, validated(0x20202020), FTY_TAG_LENGTH, 0);
-    uint32_t position = KEPT;
-    check("byte", 0, fty_tag_validate(0x6376740A, &position), FTY_TAG_BYTE);
-    check("byte", 1, position, 3);
-    check("after a space", 0, fty_tag_validate(0x41202042, &position), FTY_TAG_AFTER_SPACE);
-    check("after a space", 1, position, 3);
+    size_t index = KEPT;
+    check("byte", 0, fty_tag_validate(0x6376740A, &index), FTY_TAG_BYTE);
+    check("byte", 1, (int64_t)index, 3);
+    check("after a space", 0, fty_tag_validate(0x41202042, &index), FTY_TAG_AFTER_SPACE);
+    check("after a space", 1, (int64_t)index, 3);
     check_short("text", 0, tag_text(0x00FF1F99, 23));
     check_written("text", 0, tag_text(0x00FF1F99, BUFFER), "{0x00}{0xFF}{0x1F}{0x99}");
     check_written("text", 1, tag_text(0x0A20417E, BUFFER), "{0x0A} A~");

@@ -75,7 +75,9 @@ def new_tag(p: Any, text: Text, old: BitVecRef) -> BitVecRef:
     return answer(status(kind), z3.If(kind == 0, wrap(32, of_text), old))
 
 
-stores("fty_tag_validate(tag, &mut old)", "tag: u32", "u32", validate)
+case("fty_tag_validate(tag, &mut index)", "tag: u32, old: u32", "u64",
+     "unsafe { let mut index = old as usize;"
+     " (fty_tag_validate(tag, &mut index) as u64) << 32 | index as u64 }", validate)
 stores("fty_tag_parse(text.as_ptr(), text.len(), &mut old)", "text: bytes", "u32", new_tag)
 
 matrix = lambda of: "FontMatrix { " + ", ".join(f"{it}: {of}{it}" for it in ENTRIES) + " }"

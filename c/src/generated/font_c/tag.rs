@@ -21,18 +21,18 @@ pub unsafe extern "C" fn fty_tag_parse(text: *const u8, text_len: usize, tag: &m
     }
 }
 
-/// Checks a tag. If a byte is not allowed where it is, stores the index of the first in `position`.
+/// Checks a tag. If a byte is not allowed where it is, stores the index of the first in `index`.
 #[unsafe(no_mangle)]
-pub unsafe extern "C" fn fty_tag_validate(tag: u32, position: &mut u32) -> u32 {
+pub unsafe extern "C" fn fty_tag_validate(tag: u32, index: &mut usize) -> u32 {
     match Tag::from_be_bytes(tag.to_raw()).validate() {
         Ok(()) => OK,
         Err(InvalidTag::InvalidLength(_)) => TAG_LENGTH,
         Err(InvalidTag::InvalidByte { pos, .. }) => {
-            *position = pos as u32;
+            *index = pos;
             TAG_BYTE
         }
         Err(InvalidTag::ByteAfterSpace { pos }) => {
-            *position = pos as u32;
+            *index = pos;
             TAG_AFTER_SPACE
         }
     }
