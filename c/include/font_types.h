@@ -33,6 +33,11 @@
  *     tags          fty_tag_{parse,validate,format}
  *     version       fty_version
  *
+ * Exports that five of these functions call, for languages that do not read this header: they
+ * take each array as a pointer and a length. So are fty_fixed_mul and fty_f26dot6_mul.
+ *
+ *     by pointers   fty_abi_{delta_sum,delta_set_sum,format,format_padded,tag_format}
+ *
  * Each function that the library exports has a contract that is proved; its comment states it.
  * What the functions in C return and write, and that they touch nothing else, is proved for every
  * argument, of what Clang 22 makes of them for a size_t of 64 bits and of 32. That GCC and another
@@ -46,10 +51,10 @@
  * of its type, or as many as the comment says. "Half up" rounds ties toward positive infinity;
  * "half away from zero" to the greater magnitude.
  *
- * No function of these lists takes two integers of different kinds, which a compiler would take in
- * any order: an offset is the only integer of its call, fraction bits are a fty_fraction, and an
- * array beside another integer is one value with its length, a fty_view, fty_span, fty_buffer or
- * fty_numbers.
+ * No function of the first two lists takes two integers of different kinds, which a compiler would
+ * take in any order: an offset is the only integer of its call, fraction bits are a fty_fraction,
+ * and an array beside another integer is one value with its length, a fty_view, fty_span,
+ * fty_buffer or fty_numbers.
  *
  * A function that can fail returns a fty_status, and stores its result where its last
  * argument points; what writes text stores the text in a fty_buffer, and its length there; a
@@ -1031,8 +1036,7 @@ FTY_API_INLINE int16_t fty_f2dot30_to_f2dot14(int32_t bits) FTY_API_NOEXCEPT {
     return FTY_API_AS(int16_t, fty_fixed_to_i32(bits));
 }
 
-/* ---- products and quotients. (The library exports fty_fixed_mul and fty_f26dot6_mul too, for
- *      languages that do not read this header.) ---- */
+/* ---- products and quotients ---- */
 
 /** @cond */
 /* A product of up to 2^62, over 2^shift, half away from zero; wraps. */
@@ -1159,15 +1163,15 @@ typedef struct fty_numbers {
     size_t count;           /**< how many there are */
 } fty_numbers;
 
-/** @cond */
-/* Exports, for the functions below, and for languages that do not read this header. */
-FTY_API_MUST_USE fty_status fty_api_delta_sum(
+/** The export of fty_delta_sum. */
+FTY_API_MUST_USE fty_status fty_abi_delta_sum(
     const int32_t *scalars, size_t scalar_count, const int32_t *deltas, size_t delta_count,
     int64_t *sum) FTY_API_NOEXCEPT;
-FTY_API_MUST_USE fty_status fty_api_delta_set_sum(
+
+/** The export of fty_delta_set_sum. */
+FTY_API_MUST_USE fty_status fty_abi_delta_set_sum(
     const int32_t *scalars, size_t scalar_count, const uint8_t *set, size_t set_length,
     uint16_t word_count, int64_t *sum) FTY_API_NOEXCEPT;
-/** @endcond */
 
 /**
  * The exact sum of scalar times delta over all items, even if partial sums overflow. Deltas may
@@ -1176,7 +1180,7 @@ FTY_API_MUST_USE fty_status fty_api_delta_set_sum(
  */
 FTY_API_RUN fty_status fty_delta_sum(
     fty_numbers scalars, fty_numbers deltas, int64_t *sum) FTY_API_NOEXCEPT {
-    return fty_api_delta_sum(scalars.numbers, scalars.count, deltas.numbers, deltas.count, sum);
+    return fty_abi_delta_sum(scalars.numbers, scalars.count, deltas.numbers, deltas.count, sum);
 }
 
 /**
@@ -1191,7 +1195,7 @@ FTY_API_RUN fty_status fty_delta_sum(
  */
 FTY_API_RUN fty_status fty_delta_set_sum(
     fty_numbers scalars, fty_view set, uint16_t word_count, int64_t *sum) FTY_API_NOEXCEPT {
-    return fty_api_delta_set_sum(
+    return fty_abi_delta_set_sum(
         scalars.numbers, scalars.count, set.bytes, set.length, word_count, sum);
 }
 
@@ -1262,12 +1266,16 @@ typedef struct fty_pad {
 /** Right-aligned in `WIDTH` bytes, filled with spaces. */
 #define FTY_PAD_INIT(WIDTH) {(WIDTH), ' ', FTY_RIGHT, 0, 0}
 
-/** @cond */
-FTY_API_MUST_USE fty_status fty_api_format(
+/** The export of fty_format, which writes no NUL. */
+FTY_API_MUST_USE fty_status fty_abi_format(
     int64_t bits, fty_fraction fraction, char *out, size_t room, size_t *length) FTY_API_NOEXCEPT;
-FTY_API_MUST_USE fty_status fty_api_format_padded(
+
+/** The export of fty_format_padded, which writes no NUL. */
+FTY_API_MUST_USE fty_status fty_abi_format_padded(
     int64_t bits, fty_fraction fraction, const fty_pad *pad, char *out, size_t room,
     size_t *length) FTY_API_NOEXCEPT;
+
+/** @cond */
 /* Stores the length of a text that was written, and ends it by a NUL if there is room. */
 FTY_API_RUN fty_status fty_api_end(
     fty_status status, fty_buffer out, size_t written, size_t *length) FTY_API_NOEXCEPT {
@@ -1288,7 +1296,7 @@ FTY_API_RUN fty_status fty_api_end(
 FTY_API_RUN fty_status fty_format(
     int64_t bits, fty_fraction fraction, fty_buffer out, size_t *length) FTY_API_NOEXCEPT {
     size_t written = 0;
-    const fty_status status = fty_api_format(bits, fraction, out.text, out.room, &written);
+    const fty_status status = fty_abi_format(bits, fraction, out.text, out.room, &written);
     return fty_api_end(status, out, written, length);
 }
 
@@ -1301,7 +1309,7 @@ FTY_API_RUN fty_status fty_format_padded(
     int64_t bits, fty_fraction fraction, const fty_pad *pad, fty_buffer out,
     size_t *length) FTY_API_NOEXCEPT {
     size_t written = 0;
-    const fty_status status = fty_api_format_padded(
+    const fty_status status = fty_abi_format_padded(
         bits, fraction, pad, out.text, out.room, &written);
     return fty_api_end(status, out, written, length);
 }
@@ -1386,10 +1394,9 @@ FTY_API_MUST_USE fty_status fty_tag_parse(
  */
 FTY_API_MUST_USE fty_status fty_tag_validate(uint32_t tag, size_t *index) FTY_API_NOEXCEPT;
 
-/** @cond */
-FTY_API_MUST_USE fty_status fty_api_tag_format(
+/** The export of fty_tag_format, which writes no NUL. */
+FTY_API_MUST_USE fty_status fty_abi_tag_format(
     uint32_t tag, char *out, size_t room, size_t *length) FTY_API_NOEXCEPT;
-/** @endcond */
 
 /**
  * Writes the text of a tag, which need not be valid: bytes 0x20 to 0x7E as they are, else {0xNN}.
@@ -1398,7 +1405,7 @@ FTY_API_MUST_USE fty_status fty_api_tag_format(
 FTY_API_RUN fty_status fty_tag_format(
     uint32_t tag, fty_buffer out, size_t *length) FTY_API_NOEXCEPT {
     size_t written = 0;
-    const fty_status status = fty_api_tag_format(tag, out.text, out.room, &written);
+    const fty_status status = fty_abi_tag_format(tag, out.text, out.room, &written);
     return fty_api_end(status, out, written, length);
 }
 

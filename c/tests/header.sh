@@ -28,11 +28,13 @@ listed() {
 }
 calling=$(printf '%s\n' fty_{fixed,f2dot14,f26dot6}_{parse,format,format_padded} \
     fty_{format,format_padded,tag_format,delta_sum,delta_set_sum} | sort)
-public=$(grep -v '^fty_api_' <<<"$declared")
+public=$(grep -v '^fty_abi_' <<<"$declared")
 is "$(listed 'In C, in' 'Calls of')" "$(comm -23 <(echo "$inline") <(echo "$calling"))" \
     'at the head, "In C"' "$declares"
-is "$(listed 'Calls of' 'Each function')" "$(sort <<<"$public"$'\n'"$calling")" \
+is "$(listed 'Calls of' 'Exports')" "$(sort <<<"$public"$'\n'"$calling")" \
     'at the head, "Calls"' "$declares"
+is "$(listed 'Exports' 'Each function' | grep '^fty_abi_')" "$(grep '^fty_abi_' <<<"$declared")" \
+    'at the head, "Exports"' "$declares"
 # Their types are those of the Rust that is compiled. An enum is returned as 32 bits.
 in_c=$(grep -E ";\$|($(paste -sd '|' <<<"$both"))\(" <<<"$typed" | sed -E '
     s/ noexcept *[;{]//; s/\(void\)/()/; s/ *\*[a-z_]+/*/g; s/ [a-z_]+([,)])/\1/g
@@ -54,7 +56,7 @@ is "$constants" "$(comm -23 <(echo "$inline") <(echo "$run_only"))" constexpr 'i
 # Each function is noexcept, and each but fty_matrix_images and fty_poke_* warns of a result that
 # is ignored.
 is "$(grep -o '\bfty_[a-z0-9_]*(' <<<"$text" | grep -v '^fty_api_' | names)" \
-    "$(sort -u <<<"$public"$'\n'"$inline")" "$declares" noexcept
+    "$(sort -u <<<"$declared"$'\n'"$inline")" "$declares" noexcept
 # Calls of functions, each by a function of the same parameters: as they are or, wrong, with each
 # two arguments of different types exchanged.
 calls() {
@@ -91,8 +93,8 @@ c++ -std=c++11 -w -Iinclude -fsyntax-only "$work/calls.cpp"
 of_two=$(grep -E '((u?int[0-9]+|size)_t) [a-z_]+,.* \1 [a-z_]+[,)]' <<<"$functions" | sed 's/(.*//')
 of_one_kind=$(printf '%s\n' fty_items fty_mul_div_i64 fty_fixed_{add,sub,mul,div,mul_div} \
     fty_f26dot6_{mul,div} | sort)
-is "$(grep -v '^fty_api_' <<<"$of_two" | sort)" "$of_one_kind" 'takes two integers' 'of one kind'
-given=$(grep ', ' <<<"$typed" | grep -v ' fty_api_')
+is "$(grep -v '^fty_abi_' <<<"$of_two" | sort)" "$of_one_kind" 'takes two integers' 'of one kind'
+given=$(grep ', ' <<<"$typed" | grep -v ' fty_abi_')
 calls '%s f%d(%s) { return %s; }' <<<"$given" >"$work/right.c"
 calls '%s f%d(%s) { return %s; }' wrong <<<"$given" >"$work/wrong.c"
 # They refuse a view for a span, a span for a view, and each of them for a pointer to it.

@@ -116,23 +116,23 @@ static fty_status sees(int kind, uint64_t a, uint64_t b, uint64_t c, uint64_t d,
     __builtin_memcpy(sum, &seen, sizeof seen);
     return (fty_status)kind;
 }
-fty_status fty_api_format(int64_t bits, fty_fraction f, char *out, size_t room, size_t *length) {
+fty_status fty_abi_format(int64_t bits, fty_fraction f, char *out, size_t room, size_t *length) {
     *length = 8;
     return sees(1, bits, f.bits, room, 0, out) * (room & 1);
 }
-fty_status fty_api_format_padded(int64_t bits, fty_fraction f, const fty_pad *pad, char *out,
+fty_status fty_abi_format_padded(int64_t bits, fty_fraction f, const fty_pad *pad, char *out,
                                  size_t room, size_t *length) {
     *length = 9;
     return sees(2, bits, f.bits, room, pad->width, out) * (room & 1);
 }
-fty_status fty_api_tag_format(uint32_t tag, char *out, size_t room, size_t *length) {
+fty_status fty_abi_tag_format(uint32_t tag, char *out, size_t room, size_t *length) {
     *length = 10;
     return sees(3, tag, 0, room, 0, out) * (room & 1);
 }
-fty_status fty_api_delta_sum(const int32_t *x, size_t n, const int32_t *y, size_t m, int64_t *sum) {
+fty_status fty_abi_delta_sum(const int32_t *x, size_t n, const int32_t *y, size_t m, int64_t *sum) {
     return sees(4, *x, *y, n, m, sum);
 }
-fty_status fty_api_delta_set_sum(const int32_t *x, size_t n, const uint8_t *y, size_t m,
+fty_status fty_abi_delta_set_sum(const int32_t *x, size_t n, const uint8_t *y, size_t m,
                                  uint16_t words, int64_t *sum) {
     return sees(5, *x, *y + 256 * words, n, m, sum);
 }

@@ -11,7 +11,7 @@ use font_types::{DeltaSum, F48Dot16, FWord, Fixed, UfWord};
 
 /// Adds up the products of 16.16 scalars and deltas, item by item, in 48.16.
 #[unsafe(no_mangle)]
-pub extern "C" fn fty_api_delta_sum(scalars: &[i32], deltas: &[i32], sum: &mut i64) -> u32
+pub extern "C" fn fty_abi_delta_sum(scalars: &[i32], deltas: &[i32], sum: &mut i64) -> u32
     ensures { StoresSum scalars.now deltas.now result sum.old sum.new }
 {
     if scalars.len() != deltas.len() {

@@ -19,7 +19,7 @@ const LONG_WORDS: u16 = 0x8000;
 /// `word_count` deltas of 16 bits, followed by deltas of 8 bits; or if the bit 0x8000 of
 /// `word_count` is set, as many as its other bits say of 32 bits, followed by deltas of 16 bits.
 #[unsafe(no_mangle)]
-pub extern "C" fn fty_api_delta_set_sum(
+pub extern "C" fn fty_abi_delta_set_sum(
     scalars: &[i32],
     set: &[u8],
     word_count: u16,

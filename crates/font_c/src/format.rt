@@ -60,7 +60,7 @@ impl TryFrom<FontPad> for Pad {
 /// length to `written`.
 #[unsafe(no_mangle)]
 #[tactic(auto, using(crate::proofs::Texts::short_text_fits))]
-pub extern "C" fn fty_api_format(
+pub extern "C" fn fty_abi_format(
     bits: i64,
     fraction: FontFraction,
     out: &mut [u8],
@@ -84,7 +84,7 @@ pub extern "C" fn fty_api_format(
 
 /// Writes that decimal padded to the start of `out`, and its length to `written`.
 #[unsafe(no_mangle)]
-pub extern "C" fn fty_api_format_padded(
+pub extern "C" fn fty_abi_format_padded(
     bits: i64,
     fraction: FontFraction,
     pad: &FontPad,

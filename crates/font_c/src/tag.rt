@@ -47,7 +47,7 @@ pub extern "C" fn fty_tag_validate(tag: u32, index: &mut usize) -> u32
 /// Writes the text of a tag to the start of `out`, and its length to `written`. Bytes from 0x20 to
 /// 0x7E are written as they are, others as `{0xNN}`.
 #[unsafe(no_mangle)]
-pub extern "C" fn fty_api_tag_format(tag: u32, out: &mut [u8], written: &mut usize) -> u32
+pub extern "C" fn fty_abi_tag_format(tag: u32, out: &mut [u8], written: &mut usize) -> u32
     ensures text { WritesText (tag_text (number_bytes tag)) result written.old written.new out.old
         out.new }
     ensures enough { 24 ≤ length out.old → result ≡ 0 }

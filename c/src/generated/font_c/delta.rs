@@ -7,7 +7,7 @@ use crate::font_types::{DeltaSum, F48Dot16, FWord, Fixed, UfWord};
 
 /// Adds up the products of 16.16 scalars and deltas, item by item, in 48.16.
 #[unsafe(no_mangle)]
-pub unsafe extern "C" fn fty_api_delta_sum(
+pub unsafe extern "C" fn fty_abi_delta_sum(
     scalars: *const i32,
     scalars_len: usize,
     deltas: *const i32,

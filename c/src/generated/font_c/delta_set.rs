@@ -15,7 +15,7 @@ const LONG_WORDS: u16 = 0x8000;
 /// `word_count` deltas of 16 bits, followed by deltas of 8 bits; or if the bit 0x8000 of
 /// `word_count` is set, as many as its other bits say of 32 bits, followed by deltas of 16 bits.
 #[unsafe(no_mangle)]
-pub unsafe extern "C" fn fty_api_delta_set_sum(
+pub unsafe extern "C" fn fty_abi_delta_set_sum(
     scalars: *const i32,
     scalars_len: usize,
     set: *const u8,

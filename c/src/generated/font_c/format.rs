@@ -52,7 +52,7 @@ impl TryFrom<FontPad> for Pad {
 /// Writes the shortest decimal that parses back to the raw value to the start of `out`, and its
 /// length to `written`.
 #[unsafe(no_mangle)]
-pub unsafe extern "C" fn fty_api_format(
+pub unsafe extern "C" fn fty_abi_format(
     bits: i64,
     fraction: FontFraction,
     out: *mut u8,
@@ -68,7 +68,7 @@ pub unsafe extern "C" fn fty_api_format(
 
 /// Writes that decimal padded to the start of `out`, and its length to `written`.
 #[unsafe(no_mangle)]
-pub unsafe extern "C" fn fty_api_format_padded(
+pub unsafe extern "C" fn fty_abi_format_padded(
     bits: i64,
     fraction: FontFraction,
     pad: &FontPad,

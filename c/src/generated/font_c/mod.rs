@@ -6,8 +6,8 @@
 //! returns a status and stores its result at its last argument; if it fails, it leaves all memory
 //! unchanged, except that `fty_tag_validate` stores the index of the invalid byte. Nothing is kept
 //! between calls, and nothing is allocated. `c/include/font_types.h` declares the exports, and has
-//! fields and rounding to integers as functions in C. Its functions call the exports whose names
-//! begin with `fty_api_`, which take numbers that C would take in another order too.
+//! fields and rounding to integers as functions in C. Some of these call the exports whose names
+//! begin with `fty_abi_`, which take numbers that C would take in another order too.
 
 mod delta;
 mod delta_set;

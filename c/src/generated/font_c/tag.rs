@@ -41,7 +41,7 @@ pub unsafe extern "C" fn fty_tag_validate(tag: u32, index: &mut usize) -> u32 {
 /// Writes the text of a tag to the start of `out`, and its length to `written`. Bytes from 0x20 to
 /// 0x7E are written as they are, others as `{0xNN}`.
 #[unsafe(no_mangle)]
-pub unsafe extern "C" fn fty_api_tag_format(
+pub unsafe extern "C" fn fty_abi_tag_format(
     tag: u32,
     out: *mut u8,
     out_len: usize,

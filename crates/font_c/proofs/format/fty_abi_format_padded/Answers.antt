@@ -1,7 +1,7 @@
 use Rattle.std.proofs.Common.{rules, ◌<◌, length}
 use Rattle.font_types.specs.{Padding.unsigned_body, Shortest.shortest_text}
 use Rattle.font_c.proofs.Texts.{printed_is_short}
-use Rattle.font_c.proofs.format.fty_api_format_padded.Goals as goal
+use Rattle.font_c.proofs.format.fty_abi_format_padded.Goals as goal
 
 pub returns-in-Ok : goal.returns-in-Ok
 returns-in-Ok c =
