@@ -34,7 +34,7 @@ int main(void) {
     uint8_t out[16] = {0};
     fty_span store = {out, sizeof out}, rest = store;            /* an item variation store */
     int is_written = fty_put_u16(&rest, 1) == FTY_OK             /* its format */
-                     && fty_reserve(&rest, 6).bytes != NULL      /* an offset and a count */
+                     && fty_span_take(&rest, 6).bytes != NULL    /* an offset and a count */
                      && fty_write_offset32(store, 2, rest) == FTY_OK
                      && fty_put_u16(&rest, 2) == FTY_OK          /* axes */
                      && fty_put_zeros_to_4(&rest, store) == FTY_OK;

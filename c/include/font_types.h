@@ -7,15 +7,15 @@
  * In C, in this file: `static inline`, and constant expressions from C++14 on, except
  * fty_put_bytes and fty_write_bytes. A program that calls only these needs no library.
  *
- *     views         fty_{absent,first,items,from}  fty_at_offset{16,24,32}
+ *     views         fty_{absent,first,items,from,follow}  fty_at_offset{16,24,32}
  *     fields        fty_{u8,i8,u16,i16,u24,i24,u32,i32,u64,i64,uint}
  *       checked     fty_read_{u8,i8,u16,i16,u24,i24,u32,i32,u64,i64,uint}
  *       in turn     fty_take_{u8,i8,u16,i16,u24,i24,u32,i32,u64,i64,uint}  fty_take
  *       at pointers fty_peek_{u16,i16,u24,i24,u32,i32,u64,i64}
  *                   fty_poke_{u16,u24,u32,u64}
  *     written       fty_write_{u8,i8,u16,i16,u24,u32,i32,i64,uint,bytes,offset16,offset24,offset32}
- *       in turn     fty_put_{u8,i8,u16,i16,u24,u32,i32,i64,bytes,zeros_to_4}  fty_reserve
- *                   fty_span_from  fty_written
+ *       in turn     fty_put_{u8,i8,u16,i16,u24,u32,i32,i64,bytes,zeros_to_4}
+ *     spans         fty_span_{from,take}  fty_written
  *     rounding      fty_checked_round_{i16,i32,i64}  fty_f26dot6_{floor,ceil,round}
  *                   fty_fixed_{floor,ceil,round,round_away}
  *     conversions   fty_fixed_to_{i32,f26dot6,f2dot14}  fty_f26dot6_to_i32  fty_fixed_from_i32
@@ -309,7 +309,7 @@ FTY_API_INLINE fty_view fty_items(fty_view view, size_t count, size_t size) FTY_
 
 /**
  * The bytes from an offset to the end of the view; absent if the offset is past the end. From 0,
- * the whole view, also where 0 means null: fty_at_offset16 and its like are for such an offset.
+ * the whole view, also where 0 means null: fty_follow is for such an offset.
  */
 FTY_API_INLINE fty_view fty_from(fty_view view, size_t offset) FTY_API_NOEXCEPT {
     if (offset > view.length)
@@ -320,12 +320,10 @@ FTY_API_INLINE fty_view fty_from(fty_view view, size_t offset) FTY_API_NOEXCEPT 
     return view;
 }
 
-/** @cond */
-/* The bytes from where an offset of a font points, which is absent if it is 0. */
-FTY_API_INLINE fty_view fty_api_to(fty_view view, uint32_t start) FTY_API_NOEXCEPT {
-    return start == 0 ? fty_absent() : fty_from(view, start);
+/** The same of an offset of a font, where 0 means null: absent then too. */
+FTY_API_INLINE fty_view fty_follow(fty_view view, size_t offset) FTY_API_NOEXCEPT {
+    return offset == 0 ? fty_absent() : fty_from(view, offset);
 }
-/** @endcond */
 
 /**
  * The bytes from where the 16-bit offset at `offset` points, to the end of the view; absent
@@ -334,7 +332,7 @@ FTY_API_INLINE fty_view fty_api_to(fty_view view, uint32_t start) FTY_API_NOEXCE
 FTY_API_INLINE fty_view fty_at_offset16(fty_view view, size_t offset) FTY_API_NOEXCEPT {
     if (!fty_api_within(view, offset, 2))
         return fty_absent();
-    return fty_api_to(view, fty_peek_u16(view.bytes + offset));
+    return fty_follow(view, fty_peek_u16(view.bytes + offset));
 }
 
 /**
@@ -344,7 +342,7 @@ FTY_API_INLINE fty_view fty_at_offset16(fty_view view, size_t offset) FTY_API_NO
 FTY_API_INLINE fty_view fty_at_offset24(fty_view view, size_t offset) FTY_API_NOEXCEPT {
     if (!fty_api_within(view, offset, 3))
         return fty_absent();
-    return fty_api_to(view, fty_peek_u24(view.bytes + offset));
+    return fty_follow(view, fty_peek_u24(view.bytes + offset));
 }
 
 /**
@@ -354,7 +352,7 @@ FTY_API_INLINE fty_view fty_at_offset24(fty_view view, size_t offset) FTY_API_NO
 FTY_API_INLINE fty_view fty_at_offset32(fty_view view, size_t offset) FTY_API_NOEXCEPT {
     if (!fty_api_within(view, offset, 4))
         return fty_absent();
-    return fty_api_to(view, fty_peek_u32(view.bytes + offset));
+    return fty_follow(view, fty_peek_u32(view.bytes + offset));
 }
 
 /** Reads a uint8, or fails by FTY_OUT_OF_BOUNDS. */
@@ -692,7 +690,7 @@ FTY_API_INLINE fty_span fty_span_from(fty_span span, size_t offset) FTY_API_NOEX
  * Takes the first `length` bytes, to write them later: they keep what they have. Absent, and the
  * span stays, unless all of them are there.
  */
-FTY_API_INLINE fty_span fty_reserve(fty_span *rest, size_t length) FTY_API_NOEXCEPT {
+FTY_API_INLINE fty_span fty_span_take(fty_span *rest, size_t length) FTY_API_NOEXCEPT {
     const fty_span after = fty_span_from(*rest, length);
     fty_span part = {FTY_API_NULL, 0};
     if (length > rest->length)
@@ -865,7 +863,7 @@ FTY_API_RUN fty_status fty_write_bytes(fty_span span, fty_view view) FTY_API_NOE
 FTY_API_INLINE fty_status fty_api_offset(
     fty_span table, size_t offset, fty_span part, size_t size) FTY_API_NOEXCEPT {
     fty_span rest = fty_span_from(table, offset);
-    const fty_span field = fty_reserve(&rest, size);
+    const fty_span field = fty_span_take(&rest, size);
     if (!fty_api_ends(table, part) || field.length == 0)
         return FTY_OUT_OF_BOUNDS;
     if (part.length == table.length)

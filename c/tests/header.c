@@ -82,6 +82,7 @@ static void values_of_opentype(void) {
     const fty_view subtable = {bytes, sizeof bytes}, coverage = fty_at_offset16(subtable, 2);
     const fty_view range = fty_items(fty_from(coverage, 4), fty_u16(coverage, 2), 6);
     STATE(fty_i16(subtable, 6) == -80);
+    STATE(fty_follow(subtable, 8).bytes == bytes + 8 && fty_follow(subtable, 0).bytes == NULL);
     STATE(range.bytes == bytes + 12 && range.length == 6 && fty_u16(range, 2) == 444);
     STATE(fty_from(subtable, 18).bytes == bytes + 18 && fty_from(subtable, 19).bytes == NULL);
     STATE(fty_at_offset16(subtable, 16).bytes == NULL && fty_u24(subtable, 16) == 0);
@@ -150,13 +151,13 @@ static void values_of_opentype(void) {
     memset(lists, KEPT, sizeof lists);
     const fty_span gsub = {lists, sizeof lists}, inside = {lists + 10, 4}, none_left = {NULL, 0};
     rest = gsub;
-    STATE(fty_put_u32(&rest, 0x10000) == FTY_OK && fty_reserve(&rest, 6).bytes == lists + 4
+    STATE(fty_put_u32(&rest, 0x10000) == FTY_OK && fty_span_take(&rest, 6).bytes == lists + 4
           && fty_write_offset16(gsub, 4, rest) == FTY_OK && fty_put_u16(&rest, 0) == FTY_OK
           && fty_put_u8(&rest, 9) == FTY_OK && fty_put_zeros_to_4(&rest, gsub) == FTY_OK
           && fty_put_zeros_to_4(&rest, gsub) == FTY_OK
           && fty_write_offset16(gsub, 6, rest) == FTY_OK
-          && fty_reserve(&rest, 9).bytes == NULL && fty_reserve(&rest, 8).length == 8
-          && fty_write_offset16(gsub, 8, rest) == FTY_OK && fty_reserve(&rest, 0).bytes != NULL
+          && fty_span_take(&rest, 9).bytes == NULL && fty_span_take(&rest, 8).length == 8
+          && fty_write_offset16(gsub, 8, rest) == FTY_OK && fty_span_take(&rest, 0).bytes != NULL
           && fty_written(gsub, rest).length == 24 && fty_u16(fty_written(gsub, rest), 8) == 24
           && memcmp(lists, "\0\1\0\0\0\xA\0\x10\0\x18\0\0\t\0\0\0\7\7\7\7\7\7\7\7", 24) == 0);
     STATE(fty_write_offset16(gsub, 4, gsub) == FTY_OUT_OF_RANGE

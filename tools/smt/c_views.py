@@ -209,9 +209,9 @@ def spanned(name: str, extra: str, it: str, place: Rule) -> None:
 
 spanned("span_from", "at: size", "fty_span_from(span, at)",
         lambda p, text, at: (at, text.length - at, z3.ULE(at, text.length)))
-spanned("reserve", "n: size", "fty_reserve(&rest, n)",
+spanned("span_take", "n: size", "fty_span_take(&rest, n)",
         lambda p, text, n: (ZERO, n, z3.ULE(n, text.length)))
-moved("reserve", ", n: size", "(void)!fty_reserve(&rest, n).bytes",
+moved("span_take", ", n: size", "(void)!fty_span_take(&rest, n).bytes",
       lambda p, text, n: z3.If(z3.ULE(n, text.length), n, ZERO))
 
 # The part of `n` bytes at `from`, which is the end of the array or is not.
@@ -353,6 +353,8 @@ part("first", "n: size", "first(view, n)",
      lambda p, text, n: (ZERO, n, z3.ULE(n, text.length)))
 part("items", "n: size, size: size", "items(view, n, size)", items)
 part("from", "at: size", "from(view, at)", to_the_end)
+part("follow", "at: size", "follow(view, at)", lambda p, text, at: (
+    at, text.length - at, z3.And(at != 0, z3.ULE(at, text.length))))
 for size in (2, 3, 4):
     part(f"at_offset{8 * size}", "at: size", f"at_offset{8 * size}(view, at)", at_offset(size))
 
