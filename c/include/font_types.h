@@ -8,11 +8,10 @@
  * fty_put_bytes and fty_write_bytes. A program that calls only these needs no library.
  *
  *     views         fty_{absent,first,items,from,follow}  fty_at_offset{16,24,32}
- *     fields        fty_{u8,i8,u16,i16,u24,i24,u32,i32,u64,i64,uint}
- *       checked     fty_read_{u8,i8,u16,i16,u24,i24,u32,i32,u64,i64,uint}
- *       in turn     fty_take_{u8,i8,u16,i16,u24,i24,u32,i32,u64,i64,uint}  fty_take
- *       at pointers fty_peek_{u16,i16,u24,i24,u32,i32,u64,i64}
- *                   fty_poke_{u16,u24,u32,u64}
+ *     fields        fty_{u8,i8,u16,i16,u24,u32,i32,i64,uint}
+ *       checked     fty_read_{u8,i8,u16,i16,u24,u32,i32,i64,uint}
+ *       in turn     fty_take_{u8,i8,u16,i16,u24,u32,i32,i64}  fty_take
+ *       at pointers fty_{peek,poke}_{u16,i16,u24,u32,i32,i64}
  *     written       fty_write_{u8,i8,u16,i16,u24,u32,i32,i64,uint,bytes,offset16,offset24,offset32}
  *       in turn     fty_put_{u8,i8,u16,i16,u24,u32,i32,i64,bytes,zeros_to_4}
  *     spans         fty_span_{from,take}  fty_written
@@ -210,11 +209,6 @@ FTY_API_INLINE uint32_t fty_peek_u24(const uint8_t *at) FTY_API_NOEXCEPT {
     return FTY_API_AS(uint32_t, at[0]) << 16 | fty_peek_u16(at + 1);
 }
 
-/** The int24 of the 3 bytes at a pointer. */
-FTY_API_INLINE int32_t fty_peek_i24(const uint8_t *at) FTY_API_NOEXCEPT {
-    return fty_peek_i16(at) * 256 + at[2];
-}
-
 /** The uint32 of the 4 bytes at a pointer. */
 FTY_API_INLINE uint32_t fty_peek_u32(const uint8_t *at) FTY_API_NOEXCEPT {
     FTY_API_LOAD(uint32_t, __builtin_bswap32)
@@ -227,20 +221,21 @@ FTY_API_INLINE int32_t fty_peek_i32(const uint8_t *at) FTY_API_NOEXCEPT {
     return FTY_API_AS(int32_t, fty_peek_u32(at));
 }
 
-/** The integer of 64 bits, unsigned, of the 8 bytes at a pointer. */
-FTY_API_INLINE uint64_t fty_peek_u64(const uint8_t *at) FTY_API_NOEXCEPT {
-    return FTY_API_AS(uint64_t, fty_peek_u32(at)) << 32 | fty_peek_u32(at + 4);
-}
-
 /** The int64 of the 8 bytes at a pointer. */
 FTY_API_INLINE int64_t fty_peek_i64(const uint8_t *at) FTY_API_NOEXCEPT {
-    return FTY_API_AS(int64_t, fty_peek_u64(at));
+    const uint64_t high = fty_peek_u32(at);
+    return FTY_API_AS(int64_t, high << 32 | fty_peek_u32(at + 4));
 }
 
 /** Stores a uint16 in the 2 bytes at a pointer. */
 FTY_API_STATIC void fty_poke_u16(uint8_t *at, uint16_t value) FTY_API_NOEXCEPT {
     at[0] = FTY_API_AS(uint8_t, value >> 8);
     at[1] = FTY_API_AS(uint8_t, value & 0xFF);
+}
+
+/** Stores an int16 in the 2 bytes at a pointer. */
+FTY_API_STATIC void fty_poke_i16(uint8_t *at, int16_t value) FTY_API_NOEXCEPT {
+    fty_poke_u16(at, FTY_API_AS(uint16_t, value));
 }
 
 /** Stores a uint24, the low 24 bits of the value, in the 3 bytes at a pointer. */
@@ -255,10 +250,16 @@ FTY_API_STATIC void fty_poke_u32(uint8_t *at, uint32_t value) FTY_API_NOEXCEPT {
     fty_poke_u16(at + 2, FTY_API_AS(uint16_t, value & 0xFFFF));
 }
 
-/** Stores an integer of 64 bits in the 8 bytes at a pointer. */
-FTY_API_STATIC void fty_poke_u64(uint8_t *at, uint64_t value) FTY_API_NOEXCEPT {
-    fty_poke_u32(at, FTY_API_AS(uint32_t, value >> 32));
-    fty_poke_u32(at + 4, FTY_API_AS(uint32_t, value & 0xFFFFFFFF));
+/** Stores an int32 in the 4 bytes at a pointer. */
+FTY_API_STATIC void fty_poke_i32(uint8_t *at, int32_t value) FTY_API_NOEXCEPT {
+    fty_poke_u32(at, FTY_API_AS(uint32_t, value));
+}
+
+/** Stores an int64 in the 8 bytes at a pointer. */
+FTY_API_STATIC void fty_poke_i64(uint8_t *at, int64_t value) FTY_API_NOEXCEPT {
+    const uint64_t bits = FTY_API_AS(uint64_t, value);
+    fty_poke_u32(at, FTY_API_AS(uint32_t, bits >> 32));
+    fty_poke_u32(at + 4, FTY_API_AS(uint32_t, bits & 0xFFFFFFFF));
 }
 
 /* ---- views: bytes of a font, and big-endian fields at byte offsets in them ---- */
@@ -435,22 +436,6 @@ FTY_API_INLINE uint32_t fty_u24(fty_view view, size_t offset) FTY_API_NOEXCEPT {
     return fty_peek_u24(view.bytes + offset);
 }
 
-/** Reads an int24, or fails by FTY_OUT_OF_BOUNDS. */
-FTY_API_INLINE fty_status fty_read_i24(
-    fty_view view, size_t offset, int32_t *value) FTY_API_NOEXCEPT {
-    if (!fty_api_within(view, offset, 3))
-        return FTY_OUT_OF_BOUNDS;
-    *value = fty_peek_i24(view.bytes + offset);
-    return FTY_OK;
-}
-
-/** An int24. 0 may mean that it is missing. */
-FTY_API_INLINE int32_t fty_i24(fty_view view, size_t offset) FTY_API_NOEXCEPT {
-    if (!fty_api_within(view, offset, 3))
-        return 0;
-    return fty_peek_i24(view.bytes + offset);
-}
-
 /** Reads a uint32, or fails by FTY_OUT_OF_BOUNDS. */
 FTY_API_INLINE fty_status fty_read_u32(
     fty_view view, size_t offset, uint32_t *value) FTY_API_NOEXCEPT {
@@ -481,22 +466,6 @@ FTY_API_INLINE int32_t fty_i32(fty_view view, size_t offset) FTY_API_NOEXCEPT {
     if (!fty_api_within(view, offset, 4))
         return 0;
     return fty_peek_i32(view.bytes + offset);
-}
-
-/** Reads an integer of 64 bits, unsigned, or fails by FTY_OUT_OF_BOUNDS. */
-FTY_API_INLINE fty_status fty_read_u64(
-    fty_view view, size_t offset, uint64_t *value) FTY_API_NOEXCEPT {
-    if (!fty_api_within(view, offset, 8))
-        return FTY_OUT_OF_BOUNDS;
-    *value = fty_peek_u64(view.bytes + offset);
-    return FTY_OK;
-}
-
-/** An integer of 64 bits, unsigned. 0 may mean that it is missing. */
-FTY_API_INLINE uint64_t fty_u64(fty_view view, size_t offset) FTY_API_NOEXCEPT {
-    if (!fty_api_within(view, offset, 8))
-        return 0;
-    return fty_peek_u64(view.bytes + offset);
 }
 
 /** Reads an int64, or fails by FTY_OUT_OF_BOUNDS. */
@@ -594,14 +563,6 @@ FTY_API_INLINE fty_status fty_take_u24(fty_view *rest, uint32_t *value) FTY_API_
     return FTY_OK;
 }
 
-/** Takes an int24. Fails by FTY_OUT_OF_BOUNDS, and the view stays. */
-FTY_API_INLINE fty_status fty_take_i24(fty_view *rest, int32_t *value) FTY_API_NOEXCEPT {
-    if (rest->length < 3)
-        return FTY_OUT_OF_BOUNDS;
-    *value = fty_peek_i24(fty_api_next(rest, 3));
-    return FTY_OK;
-}
-
 /** Takes a uint32. Fails by FTY_OUT_OF_BOUNDS, and the view stays. */
 FTY_API_INLINE fty_status fty_take_u32(fty_view *rest, uint32_t *value) FTY_API_NOEXCEPT {
     if (rest->length < 4)
@@ -618,32 +579,12 @@ FTY_API_INLINE fty_status fty_take_i32(fty_view *rest, int32_t *value) FTY_API_N
     return FTY_OK;
 }
 
-/** Takes an integer of 64 bits, unsigned. Fails by FTY_OUT_OF_BOUNDS, and the view stays. */
-FTY_API_INLINE fty_status fty_take_u64(fty_view *rest, uint64_t *value) FTY_API_NOEXCEPT {
-    if (rest->length < 8)
-        return FTY_OUT_OF_BOUNDS;
-    *value = fty_peek_u64(fty_api_next(rest, 8));
-    return FTY_OK;
-}
-
 /** Takes an int64. Fails by FTY_OUT_OF_BOUNDS, and the view stays. */
 FTY_API_INLINE fty_status fty_take_i64(fty_view *rest, int64_t *value) FTY_API_NOEXCEPT {
     if (rest->length < 8)
         return FTY_OUT_OF_BOUNDS;
     *value = fty_peek_i64(fty_api_next(rest, 8));
     return FTY_OK;
-}
-
-/**
- * Takes an unsigned integer of `size` bytes, 1 to 4. Fails by FTY_OUT_OF_BOUNDS, also if `size` is
- * another, and the view stays.
- */
-FTY_API_INLINE fty_status fty_take_uint(
-    fty_view *rest, size_t size, uint32_t *value) FTY_API_NOEXCEPT {
-    const fty_status status = fty_read_uint(fty_first(*rest, size), value);
-    if (status == FTY_OK)
-        *rest = fty_from(*rest, size);
-    return status;
 }
 
 /* ---- writing: a span is room for bytes, as a view is bytes that are there. fty_put_u16 and its
@@ -767,7 +708,7 @@ FTY_API_INLINE fty_status fty_put_i32(fty_span *rest, int32_t value) FTY_API_NOE
 FTY_API_INLINE fty_status fty_put_i64(fty_span *rest, int64_t value) FTY_API_NOEXCEPT {
     if (rest->length < 8)
         return FTY_OUT_OF_BOUNDS;
-    fty_poke_u64(fty_api_room(rest, 8), FTY_API_AS(uint64_t, value));
+    fty_poke_i64(fty_api_room(rest, 8), value);
     return FTY_OK;
 }
 
@@ -840,13 +781,13 @@ FTY_API_INLINE fty_status fty_write_i64(fty_span span, int64_t value) FTY_API_NO
 }
 
 /**
- * Fills a span of 1 to 8 bytes with an unsigned integer. Fails by FTY_OUT_OF_BOUNDS if the span has
+ * Fills a span of 1 to 4 bytes with an unsigned integer. Fails by FTY_OUT_OF_BOUNDS if the span has
  * another length, by FTY_OUT_OF_RANGE if the value needs more bytes.
  */
-FTY_API_INLINE fty_status fty_write_uint(fty_span span, uint64_t value) FTY_API_NOEXCEPT {
-    if (span.length < 1 || span.length > 8)
+FTY_API_INLINE fty_status fty_write_uint(fty_span span, uint32_t value) FTY_API_NOEXCEPT {
+    if (span.length < 1 || span.length > 4)
         return FTY_OUT_OF_BOUNDS;
-    if (span.length < 8 && value >> 8 * span.length != 0)
+    if (span.length < 4 && value >> 8 * span.length != 0)
         return FTY_OUT_OF_RANGE;
     for (size_t i = span.length; i > 0; i--, value >>= 8)
         span.bytes[i - 1] = FTY_API_AS(uint8_t, value & 0xFF);
@@ -864,11 +805,12 @@ FTY_API_INLINE fty_status fty_api_offset(
     fty_span table, size_t offset, fty_span part, size_t size) FTY_API_NOEXCEPT {
     fty_span rest = fty_span_from(table, offset);
     const fty_span field = fty_span_take(&rest, size);
+    const size_t start = table.length - part.length;
     if (!fty_api_ends(table, part) || field.length == 0)
         return FTY_OUT_OF_BOUNDS;
-    if (part.length == table.length)
+    if (start == 0 || start != (start & 0xFFFFFFFF))
         return FTY_OUT_OF_RANGE;
-    return fty_write_uint(field, table.length - part.length);
+    return fty_write_uint(field, FTY_API_AS(uint32_t, start & 0xFFFFFFFF));
 }
 /** @endcond */
 

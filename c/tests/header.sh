@@ -84,7 +84,7 @@ calls() {
 }
 calls 'void /* %s */ f%d(%s) { %s; }' <<<"$typed" >"$work/calls.c"
 cc -Iinclude -c -o "$work/calls.o" "$work/calls.c" 2>"$work/log"
-is "$(grep -c 'unused-result' "$work/log")" "$(($(wc -l <<<"$typed") - 5))"
+is "$(grep -c 'unused-result' "$work/log")" "$(($(wc -l <<<"$typed") - 7))"
 calls 'void /* %s */ f%d(%s) { static_assert(noexcept(%s), ""); }' <<<"$typed" >"$work/calls.cpp"
 c++ -std=c++11 -w -Iinclude -fsyntax-only "$work/calls.cpp"
 

@@ -13,11 +13,10 @@ from values import constant
 
 # Statuses, and what an out-parameter has before a call.
 OUT_OF_RANGE, BAD_FRACTION, OUT_OF_BOUNDS, KEPT = 2, 3, 6, 7
-# By the name, how many bytes a field has that is an integer, and its type.
+# By the name, how many bytes an integer of OpenType has, and its type.
 FIELDS = {
-    f"{sign}{bits}": (bits // 8, f"{sign}{32 if bits == 24 else bits}")
-    for bits in (8, 16, 24, 32, 64)
-    for sign in "ui"
+    name: (int(name[1:]) // 8, "u32" if name == "u24" else name)
+    for name in ("u8", "i8", "u16", "i16", "u24", "u32", "i32", "i64")
 }
 ROWS: list[Case] = []
 

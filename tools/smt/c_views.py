@@ -93,11 +93,6 @@ def take(name: str, size: int, type_: str) -> None:
 
 for name, (size, type_) in FIELDS.items():
     take(name, size, type_)
-fallible("take_uint", "text: bytes, n: size", "u32",
-         "({ fty_view rest = view; fty_take_uint(&rest, n, &it); })",
-         lambda p, text, n: sized(text, n))
-taken("take_uint", ", n: size", "(void)!fty_take_uint(&rest, n, (uint32_t *)&it)",
-      lambda text, n: (z3.And(n >= 1, n <= 4, z3.ULE(n, text.length)), n))
 TAKEN = "({ fty_view rest = view; const fty_view it = fty_take(&rest, n); %s; })"
 IN_VIEW = f"it.bytes == NULL ? UINT64_MAX : {PLACE.format('it')}"
 row("take, place", "text: bytes, n: size", "u64", TAKEN % IN_VIEW,
@@ -173,24 +168,23 @@ def poke(name: str, size: int, type_: str) -> None:
 
 
 for name, (size, type_) in FIELDS.items():
-    if name not in ("i24", "u64"):  # which OpenType has not
-        write(name, size, type_)
-    if size > 1 and name[0] == "u":
+    write(name, size, type_)
+    if size > 1:
         poke(name, size, type_)
 
 
 def wrote_sized(p: Products, text: Text, x: Any, result: Any, after: Text) -> Any:
-    """Of all bytes, 1 to 8."""
+    """Of all bytes, 1 to 4."""
     is_refused = z3.And(result == OUT_OF_BOUNDS, is_kept(text, after))
-    known = [z3.Implies(z3.Or(text.length == 0, z3.UGT(text.length, 8)), is_refused)]
-    for size in range(1, 9):
+    known = [z3.Implies(z3.Or(text.length == 0, z3.UGT(text.length, 4)), is_refused)]
+    for size in range(1, 5):
         is_right = wrote(text, x, ZERO, size, result, after, fits_unsigned(8 * size, U(x)))
         known.append(z3.Implies(text.length == size, is_right))
     return z3.And(known)
 
 
-row("write_uint", "text: room, x: u64", "u32", "fty_write_uint(span, x)", wrote_sized, True)
-always("write_uint, absent", "x: u64", "u32", "fty_write_uint((fty_span){NULL, 0}, x)",
+row("write_uint", "text: room, x: u32", "u32", "fty_write_uint(span, x)", wrote_sized, True)
+always("write_uint, absent", "x: u32", "u32", "fty_write_uint((fty_span){NULL, 0}, x)",
        OUT_OF_BOUNDS)
 
 
