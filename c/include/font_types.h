@@ -53,12 +53,14 @@
  * No function of the first two lists takes two integers of different kinds, which a compiler would
  * take in any order: an offset is the only integer of its call, fraction bits are a fty_fraction,
  * and an array beside another integer is one value with its length, a fty_view, fty_span,
- * fty_buffer or fty_numbers.
+ * fty_buffer or fty_numbers. A text, or points, beside none are a pointer and a length. A "length"
+ * counts bytes, a "count" elements, a "size" the bytes of one, and "room" those of a buffer.
  *
- * A function that can fail returns a fty_status, and stores its result where its last
- * argument points; what writes text stores the text in a fty_buffer, and its length there; a
- * fty_put or fty_write function stores bytes in its span. If two errors apply, the status is the
- * first that the comment lists. If a function fails, it leaves all memory unchanged,
+ * A function that can fail returns a fty_status, and stores its result where its last argument
+ * points; any other returns it. "checked" means, as in Rust, that it fails where a sum, a rounding
+ * or a conversion of this name wraps. What writes text stores the text in a fty_buffer, and its
+ * length there; a fty_put or fty_write function stores bytes in its span. If two errors apply, the
+ * status is the first that the comment lists. If a function fails, it leaves all memory unchanged,
  * except that fty_tag_validate stores the index of the invalid byte.
  *
  * Pointers must be valid for the length that goes with them (1 for a single value),
@@ -1139,7 +1141,10 @@ FTY_API_RUN fty_status fty_delta_set_sum(
         scalars.numbers, scalars.count, set.bytes, set.length, word_count, sum);
 }
 
-/** The number of bytes of a delta set that has a delta for each scalar. */
+/**
+ * The number of bytes of a delta set that has a delta for each scalar. It reads no scalar, so that
+ * {NULL, count} will do.
+ */
 FTY_API_INLINE size_t fty_delta_set_length(
     fty_numbers scalars, uint16_t word_count) FTY_API_NOEXCEPT {
     const size_t size = (word_count & 0x8000) != 0 ? 2 : 1;
@@ -1193,7 +1198,7 @@ typedef enum fty_align FTY_API_OF_32_BITS {
     FTY_RIGHT = 2   /**< fill on the left */
 } fty_align;
 
-/** How to pad a decimal. */
+/** How to pad a decimal. No version 1 adds a member. */
 typedef struct fty_pad {
     size_t width;  /**< the minimum width in bytes; 0 means none */
     uint8_t fill;  /**< the fill byte, below 0x80; 0 means a space */

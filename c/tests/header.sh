@@ -57,6 +57,8 @@ is "$constants" "$(comm -23 <(echo "$inline") <(echo "$run_only"))" constexpr 'i
 # is ignored.
 is "$(grep -o '\bfty_[a-z0-9_]*(' <<<"$text" | grep -v '^fty_api_' | names)" \
     "$(sort -u <<<"$declared"$'\n'"$inline")" "$declares" noexcept
+# What is checked can fail.
+fails grep -v '^fty_status ' <(grep '_checked_' <<<"$typed")
 # Calls of functions, each by a function of the same parameters: as they are or, wrong, with each
 # two arguments of different types exchanged.
 calls() {
