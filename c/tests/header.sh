@@ -46,6 +46,17 @@ in_rust=$(cat src/generated/font_c/*.rs | tr -d '\n' | grep -oE '"C" fn fty_[^{]
     s/\bi(8|16|32|64)\b/int\1_t/g; s/usize/size_t/g; s/([(,]) +/\1/g' | sort)
 is "$in_c" "$in_rust" "$declares" 'in the Rust'
 
+# Each name is as it was recorded: a change of a line is one for callers, or of the ABI.
+recorded() {
+    grep -oE '(const )?[a-z0-9_]+ \*?fty_[a-z0-9_]+\([^()]*\) noexcept *[;{]' <<<"$text" |
+        sed 's/ *noexcept.*//' | grep -v '\bfty_api_'
+    grep -oE 'typedef struct fty_[^{}]*\{[^{}]*\}|\bFTY_[A-Z0-9_]+ *= *[0-9]+' <<<"$text"
+    cc -std=c99 -E -dM -Iinclude -include font_types.h -x c /dev/null |
+        grep '^#define \(FTY\|FONT\)_' | grep -v FTY_VERSION
+}
+record=$(recorded | sed -E 's/ +/ /g; s/ ?([(){},;*=]) ?/\1/g; s/\*/ */g; s/ $//' | LC_ALL=C sort)
+is "$record" "$(<tests/declarations.txt)" "$declares" 'in declarations.txt'
+
 # C++14 evaluates all that neither copies nor calls.
 constants=$(c++ -std=c++14 -x c++ -E -P include/font_types.h | tr '\n' ' ' |
     grep -oE '\bconstexpr [^;{}]*\) noexcept *\{' | grep -oE '\bfty_[a-z0-9_]+\(' |
@@ -114,17 +125,13 @@ done
     is "$refused" "$(seq 2 "$(wc -l <"$work/wrong.c")")" "refused by $compiler" 'in wrong.c'
 done
 
-# A guard; FTY_TAG of any expressions; and no other macro that is left.
+# A guard, and FTY_TAG of any expressions.
 c++ -std=c++11 -Iinclude -x c++ -fsyntax-only - <<'CPP'
 #include "font_types.h"
 #include "font_types.h"
 static_assert(FTY_TAG(true ? 1 : 2, 3, 4, 5) == 0x01030405, "");
 static_assert(FTY_TAG(-1, -2, -3, -4) == 0xFFFEFDFC && FTY_TAG(1, 2, 3, 4) / 2 == 0x00810182, "");
 CPP
-macros=$(cc -E -dM include/font_types.h | grep -oE '^#define (FONT|FTY)_[A-Z_0-9]*' | sort)
-left=$(printf '%s\n' FONT_TYPES_H FTY_{FRACTION,FIXED,PAD_INIT,TAG,VERSION,VERSION_NUMBER} \
-    FTY_F{2DOT14,2DOT30,26DOT6,48DOT16,4DOT12,6DOT10})
-is "$(sed 's/#define //' <<<"$macros")" "$(sort <<<"$left")"
 
 # What each returns and writes for every argument, and that nothing is undefined.
 solver=

@@ -49,20 +49,6 @@ static void check_result(const char *table, size_t row, struct result found, fty
         return result;                                                                         \
     }
 
-/* ---- the header: a wrong value does not compile ---- */
-
-typedef char values[FTY_OK == 0 && FTY_NOT_DECIMAL == 1 && FTY_OUT_OF_RANGE == 2
-                            && FTY_BAD_FRACTION == 3 && FTY_BUFFER_TOO_SMALL == 4
-                            && FTY_BAD_PAD == 5 && FTY_OUT_OF_BOUNDS == 6
-                            && FTY_COUNT_MISMATCH == 7
-                            && FTY_TOO_MANY == 8 && FTY_TAG_LENGTH == 10
-                            && FTY_TAG_BYTE == 11 && FTY_TAG_AFTER_SPACE == 12 && FTY_LEFT == 0
-                            && FTY_CENTER == 1 && FTY_RIGHT == 2 && FTY_DECIMAL_ROOM == 24
-                            && FTY_TAG_ROOM == 25
-                            && FTY_TAG('c', 'v', 't', ' ') == 0x63767420
-                        ? 1
-                        : -1];
-
 /* ---- decimals ---- */
 
 RESULT(parsed_16, int16_t, (const char *text, size_t length, uint32_t f),
