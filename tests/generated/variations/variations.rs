@@ -12,7 +12,9 @@ use crate::variations::{
 fn store_of(regions: &[u8]) -> [u8; 36] {
     let mut store = [0; 36];
     store[..8].copy_from_slice(&[0, 1, 0, 0, 0, 8, 0, 0]);
-    store[8..8 + regions.len()].copy_from_slice(regions);
+    for (place, byte) in store[8..].iter_mut().zip(regions) {
+        *place = *byte;
+    }
     store
 }
 
@@ -28,7 +30,7 @@ fn at<'x>(
 // The scalar of a region of a list.
 fn region_scalar(regions: &[u8], region: u16, coordinates: &[F2Dot14]) -> Option<Fixed> {
     let (store, mut scalars) = (store_of(regions), [Fixed::ZERO; 2]);
-    at(&store[..8 + regions.len()], coordinates, &mut scalars)?.scalar(region)
+    at(store.get(..8 + regions.len())?, coordinates, &mut scalars)?.scalar(region)
 }
 
 #[test]
