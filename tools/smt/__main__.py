@@ -5,16 +5,19 @@
 `--checked` compiles with checks of overflow and debug assertions, and so shows that none of them
 fails. Without it, the build has neither, like a release build. `--exhaustive` adds the rows of each
 number of fraction bits. `--mutants` tries wrong Rust. `--goals` keeps each goal of a rule that is
-not decided at once as a file of SMT-LIB, for another solver."""
+not decided at once as a file of SMT-LIB. `--solver COMMAND` asks another solver, which reads such
+a file, of all that Z3 refutes, and fails if it says that something of it can be met."""
 
 import argparse
 import ctypes
 import multiprocessing
 import os
 import re
+import shlex
 import sys
 import tempfile
 import time
+from collections import Counter
 from concurrent.futures import ProcessPoolExecutor
 from pathlib import Path
 from typing import Any, NamedTuple
@@ -37,7 +40,7 @@ import table
 from build import Refusal, build, version
 from ir import Module
 from proof import fault_of
-from state import LIMIT
+from state import ANSWERS, LIMIT, SECOND, ask
 
 # What the processes share: the options, the IR, the library, and the rows in groups.
 SHARED: tuple[argparse.Namespace, Module, ctypes.CDLL, list[list[table.Row]]]
@@ -50,6 +53,7 @@ class Proved(NamedTuple):
     reason: str
     agreed: int
     seconds: float
+    answers: Counter[str]
 
 
 def prove(index: int) -> list[Proved]:
@@ -57,11 +61,12 @@ def prove(index: int) -> list[Proved]:
     options, module, library, groups = SHARED
     found: list[Proved] = []
     for row in groups[index]:
+        ANSWERS.clear()
         began, proof = time.process_time(), table.proof_of(module, row, library, options.goals)
         reason = found[0].reason if found else fault_of(proof, options.turns)
         seconds = time.process_time() - began
         shown = f"{row.name:40} {proof.goals:3} goals {seconds:7.2f} s  {reason or 'proved'}"
-        found.append(Proved(shown, reason, proof.agreed, seconds))
+        found.append(Proved(shown, reason, proof.agreed, seconds, ANSWERS.copy()))
     return found
 
 
@@ -95,9 +100,11 @@ def main() -> int:
     parser.add_argument("--jobs", type=int, default=os.cpu_count())
     parser.add_argument("--goals", type=Path)
     parser.add_argument("--mutants", action="store_true")
+    parser.add_argument("--solver", type=shlex.split, default=[])
     parser.add_argument("--turns", type=int, default=3)
     options = parser.parse_args()
     sys.setrecursionlimit(20000)
+    SECOND.extend(options.solver)
     if options.mutants:
         return int(faults.report(options.tree, options.only) > 0)
     for name, lemma in (
@@ -113,6 +120,8 @@ def main() -> int:
         if solver.check() != z3.unsat:
             print(f"the lemma {name} is not proved")
             return 1
+        ask([z3.Not(lemma)])
+    answers = ANSWERS.copy()
     try:
         rustc = version(options.tree)
         with tempfile.TemporaryDirectory() as room:
@@ -124,6 +133,9 @@ def main() -> int:
     proved, seconds = sum(not it.reason for it in found), sum(it.seconds for it in found)
     count = f"{proved} of {len(found)} functions proved in the {kind} build, by {rustc}"
     print(f"{count}, {time.process_time() + seconds:.0f} s of processor")
+    if SECOND:
+        answers = sum((it.answers for it in found), answers)
+        print(f"{SECOND[0]} refutes {answers['unsat']} of {answers.total()} goals too")
     return int(not found or proved < len(found))
 
 

@@ -21,7 +21,7 @@ from loops import Loops
 from execution import End, Machine
 from memory import Slice
 from rules import Products, Sums, Text, check_widths, use_width
-from state import LIMIT, QUICK, Goals
+from state import LIMIT, QUICK, Disagreement, Goals, ask
 from values import Unsupported, constant, number_of
 
 # How many arguments are tried, to find one that shows a fault.
@@ -63,6 +63,8 @@ def fault_of(proof: Provable, turns: int = 3) -> str:
         return f"not proved: {error}"
     except Unsupported as error:
         return f"not read: {error}"
+    except Disagreement as error:
+        return f"not agreed: {error}"
     return ""
 
 
@@ -147,18 +149,18 @@ class Proof:
         self.goals += 1
         goal = z3.simplify(z3.And(conditions))
         if z3.is_false(goal):
-            return
+            return ask(conditions)
         self.asked += 1
         # Most goals need no fact.
         if self.arithmetic.facts and self.solver(goal, [], QUICK).check() == z3.unsat:
-            return
+            return ask(conditions)
         solver = self.solver(goal, self.arithmetic.facts)
         if self.folder:
             name = re.sub(r"\W+", "_", self.case.name) + f"_{self.goals}.smt2"
             (self.folder / name).write_text("(set-logic QF_UFBV)\n" + solver.to_smt2())
         answer = solver.check()
         if answer == z3.unsat:
-            return
+            return ask([*conditions, *self.arithmetic.facts])
         if answer == z3.sat:
             for name, it in self.given.variables.items():
                 solver.add(z3.ULE(it, MOST)) if name.endswith("_length") else None

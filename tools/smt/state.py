@@ -2,6 +2,9 @@
 
 from __future__ import annotations
 
+import re
+import subprocess
+from collections import Counter
 from collections.abc import Callable, Iterable
 from typing import TYPE_CHECKING, Any, NamedTuple
 
@@ -16,6 +19,27 @@ if TYPE_CHECKING:
 # What the solver may spend on one goal, and on a goal without facts, in steps that it counts: so a
 # verdict does not depend on the machine, nor on what else it does.
 LIMIT, QUICK = 500_000_000, 1_000_000
+# The command of another solver, or nothing, and how often it gave each answer.
+SECOND, ANSWERS = list[str](), Counter[str]()
+
+
+class Disagreement(Exception):
+    """The other solver does not read what Z3 refutes, or says that it can be met."""
+
+
+def ask(conditions: Iterable[BoolRef]) -> None:
+    """Asks the other solver of conditions that exclude each other, before Z3 simplifies them."""
+    if SECOND:
+        solver = z3.Solver()
+        solver.add(*conditions)
+        # No other solver knows an `or` of nothing, a sum of one number, or a `bvudiv_i`.
+        text = re.sub(r"(?<=[ \n])or(?=[ )])", "false", "(set-logic ALL)\n" + solver.to_smt2())
+        text = re.sub(r"\b(bv[us](?:div|rem))_i\b|\(\+ (\w+)\)", r"\1\2", text)
+        done = subprocess.run(SECOND, input=text, capture_output=True, text=True)
+        answer = done.stdout.partition("\n")[0]
+        if answer == "sat" or answer.startswith("(error"):
+            raise Disagreement(f"{SECOND[0]} says {answer} of\n{text}")
+        ANSWERS[answer] += 1
 
 
 class State(NamedTuple):
@@ -44,7 +68,9 @@ def solved(conditions: Iterable[BoolRef]) -> Any:
         solver.set("rlimit", limit)
         solver.add(*every)
         if (answer := solver.check()) != z3.unknown:
-            return answer
+            break
+    if answer == z3.unsat:
+        ask(every)
     return answer
 
 

@@ -280,6 +280,21 @@ def reason(way, text):
 print(json.dumps([reason(*it) for it in json.load(sys.stdin)]))
 """
 
+# Prints whether Z3 refutes a goal, by what another solver answers.
+ANSWERED = """
+import json, sys, z3
+import state
+
+def refutes(answer):
+    state.SECOND[:] = ["echo", answer]
+    try:
+        return state.solved([z3.BoolVal(False)]) == z3.unsat
+    except state.Disagreement:
+        return False
+
+print(json.dumps([refutes(it) for it in json.load(sys.stdin)] + [state.ANSWERS]))
+"""
+
 # Prints what the IR of an expression returns, in the build that is proved.
 BUILT = """
 import json, sys, tempfile
@@ -337,6 +352,11 @@ class Reader(unittest.TestCase):
         for row, found in zip(WRONG, told(REASONS, rows), strict=True):
             with self.subTest(row[:2]):
                 self.assertEqual(found, row[2])
+
+    def test_another_solver_is_heard(self) -> None:
+        *refuted, counts = told(ANSWERED, ["unsat", "unknown", "", "sat", "(error no)"])
+        self.assertEqual(refuted, [True, True, True, False, False])
+        self.assertEqual(counts, {"unsat": 1, "unknown": 1, "": 1})
 
     def test_code_is_that_of_users(self) -> None:
         """It may ask whether panics unwind, and for the name of its crate."""
