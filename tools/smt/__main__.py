@@ -33,9 +33,9 @@ except ModuleNotFoundError:
 import arithmetic
 import decimals
 import faults
-import geometry
+from rows import geometry
 import printing
-import rules
+from rows import rules
 import table
 from build import Refusal, build, version
 from ir import Module

@@ -7,7 +7,7 @@ import subprocess
 from pathlib import Path
 from typing import NamedTuple
 
-from row import Case
+from rows.row import Case
 
 # How a slice of unknown length is passed: the type of its elements.
 SLICES = {"bytes": "u8", "room": "u8", "terms": "(Fixed, i32)"}

@@ -3,11 +3,11 @@
 import re
 from pathlib import Path
 
-import c_views as c_views
-from c_numbers import EXPORTS
-from c_row import ROWS as ROWS
-from c_row import in_c
-from cases import Case
+from rows import c_views as c_views
+from rows.c_numbers import EXPORTS
+from rows.c_row import ROWS as ROWS
+from rows.c_row import in_c
+from rows.cases import Case
 
 HEAD = '#include "font_types.h"\n'
 FUNCTION = "{0} {1}({2}) {{ {3}return {4}; }}\n"

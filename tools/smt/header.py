@@ -1,6 +1,6 @@
 """Proves the functions that c/include/font_types.h has in C, by Clang, the reader and the rules of
 the second proof: for every argument, the result is right and nothing is undefined. `c_numbers.py`
-and `c_views.py` have the rows.
+and `c_views.py` of `rows` have the rows.
 
 `/usr/bin/python3 tools/smt/header.py [--only PATTERN] [--builds NAME,..] [FOLDER]`
 

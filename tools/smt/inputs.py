@@ -8,9 +8,9 @@ from typing import Any, NamedTuple, Union
 import z3
 from z3 import BitVecRef, BoolRef
 
-from cases import Case
+from rows.cases import Case
 from memory import Object, Slice
-from rules import Products, Sums, Text
+from rows.rules import Products, Sums, Text
 from values import Address, Number, Value, constant
 
 # Numbers by the name of a parameter; of a slice, its bytes.

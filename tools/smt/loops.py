@@ -6,7 +6,7 @@ import z3
 from z3 import BitVecRef, BoolRef
 
 from ir import Function, Instruction
-from rules import Sums
+from rows.rules import Sums
 from state import Goals, State
 from values import Address, Names, Number, Unsupported, address_of, constant, number_of
 

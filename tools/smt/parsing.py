@@ -14,7 +14,7 @@ import z3
 from z3 import ArithRef, BitVecRef, BoolRef
 
 from arithmetic import Arithmetic
-from cases import FORMATS, Case
+from rows.cases import FORMATS, Case
 
 from decimals import (
     IS_DECIMAL, Text, e, expected, fraction, h, is_floor, n, s, text, whole, y, z,

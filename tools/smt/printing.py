@@ -19,7 +19,7 @@ from ir import Module
 from linear import Linear
 from memory import NOTHING, Cells
 from proof import SEARCH, Refused, Unknown, refute_known
-from row import FORMATS
+from rows.row import FORMATS
 from state import Goals, solved
 from values import Address, Number, Unsupported, Value, constant, is_constant, number_of, settle
 

@@ -10,7 +10,7 @@ import z3
 from z3 import BoolRef
 
 from arithmetic import Arithmetic
-from cases import Case
+from rows.cases import Case
 
 from inputs import (
     ELEMENTS, Given, Inputs, byte_of, chosen, inputs, of_model, result_width, run_library, shown,
@@ -20,7 +20,7 @@ from ir import Module
 from loops import Loops
 from execution import End, Machine
 from memory import Slice
-from rules import Products, Sums, Text, check_widths, use_width
+from rows.rules import Products, Sums, Text, check_widths, use_width
 from state import LIMIT, QUICK, Disagreement, Goals, ask
 from values import Unsupported, constant, number_of
 

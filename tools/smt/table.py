@@ -7,7 +7,7 @@ from pathlib import Path
 import parsing
 import printing
 from build import wrapper
-from cases import CASES, Case
+from rows.cases import CASES, Case
 from ir import Module
 from parsing import Parsing
 from printing import Printing

@@ -192,8 +192,8 @@ from arithmetic import Arithmetic
 from execution import Machine
 from inputs import ELEMENTS, inputs
 from ir import Module
-from row import Case
-from rules import Products
+from rows.row import Case
+from rows.rules import Products
 from state import Goals
 
 TEXT = '''

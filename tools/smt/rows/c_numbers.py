@@ -3,9 +3,9 @@
 import z3
 from z3 import BitVecRef
 
-from c_row import BAD_FRACTION, KEPT, OUT_OF_RANGE, always, fallible, row, status
-from cases import Rule
-from rules import N, Products, S, U, fits, near, together, up, whole, wrap
+from rows.c_row import BAD_FRACTION, KEPT, OUT_OF_RANGE, always, fallible, row, status
+from rows.cases import Rule
+from rows.rules import N, Products, S, U, fits, near, together, up, whole, wrap
 from values import constant
 
 # fmt: off

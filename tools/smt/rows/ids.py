@@ -4,10 +4,10 @@ import re
 
 import z3
 
-from row import case
-from scalars import LARGEST
+from rows.row import case
+from rows.scalars import LARGEST
 
-from rules import (
+from rows.rules import (
     B, N, S, U, big_endian, checked_tag, fits_unsigned, low, some, together, validated, wrap,
 )  # fmt: skip
 

@@ -5,10 +5,10 @@ from typing import Any, NamedTuple
 
 import z3
 
-from fixed import of_bits
-from row import CASES, case, relation
+from rows.fixed import of_bits
+from rows.row import CASES, case, relation
 
-from rules import (
+from rows.rules import (
     B, S, U, Text, big_endian, fits, fits_unsigned, low, saturate, some, stored, together, wrap,
 )  # fmt: skip
 

@@ -2,9 +2,9 @@
 
 import z3
 
-from row import FORMATS, Rule, case, relation
+from rows.row import FORMATS, Rule, case, relation
 
-from rules import (
+from rows.rules import (
     B, S, U, absolute, big_endian, checked, checked_scaled, fits, fits_unsigned, near, saturate,
     scaled, some, up, whole, wrap,
 )  # fmt: skip

@@ -7,9 +7,9 @@ import z3
 from z3 import BoolRef
 
 from integers import subterms
-from row import Rule, case, relation
+from rows.row import Rule, case, relation
 
-from rules import (
+from rows.rules import (
     S, Exact, Products, checked, checked_scaled, fits, near, scaled, some, wrap,
 )  # fmt: skip
 

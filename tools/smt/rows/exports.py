@@ -6,9 +6,9 @@ from typing import Any
 import z3
 from z3 import BitVecRef
 
-from geometry import ENTRIES, entries, image, product, two
-from row import CASES, Rule, case
-from rules import S, U, Text, checked_tag, fits, fits_unsigned, up, validated, wrap
+from rows.geometry import ENTRIES, entries, image, product, two
+from rows.row import CASES, Rule, case
+from rows.rules import S, U, Text, checked_tag, fits, fits_unsigned, up, validated, wrap
 
 # fmt: off
 RUST = {it.name: it for it in CASES}

@@ -7,10 +7,10 @@ import z3
 from z3 import BitVecRef
 
 import inputs
-from c_row import FIELDS, OUT_OF_BOUNDS, OUT_OF_RANGE, always, fallible, in_c, row, status
-from cases import Rule
-from rules import Products, S, Text, U, fits_unsigned, stored, together, wrap
-from scalars import ZERO
+from rows.c_row import FIELDS, OUT_OF_BOUNDS, OUT_OF_RANGE, always, fallible, in_c, row, status
+from rows.cases import Rule
+from rows.rules import Products, S, Text, U, fits_unsigned, stored, together, wrap
+from rows.scalars import ZERO
 from values import constant
 
 Outcome = tuple[Any, ...]

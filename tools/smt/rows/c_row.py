@@ -7,7 +7,7 @@ from typing import Any
 import z3
 from z3 import BitVecRef
 
-from cases import Case, Rule
+from rows.cases import Case, Rule
 from inputs import width_of
 from values import constant
 

@@ -1,5 +1,5 @@
 """What the functions have to do, as docs/PROMISES.md and OpenType say it. Whoever trusts the proof
-has to agree with this page and with `cases.py`.
+has to agree with this folder.
 
 A number is a vector of W bits, which is read as a signed integer. A division by 2^k is a shift: `>>`
 rounds down. No sum or product of a rule reaches 2^(W-1), by the bounds of what it computes with
