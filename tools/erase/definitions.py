@@ -11,6 +11,8 @@ from collections.abc import Iterable
 from dataclasses import dataclass, field
 from pathlib import Path
 
+from widths import MADE
+
 # A definition begins so; a lemma does not.
 START = re.compile(r"\s*(?:abbrev |unfoldable |record |pub )+(\w+)", re.UNICODE)
 
@@ -97,7 +99,8 @@ def exported(root: Path, crates: list[str], pages: dict[str, str]) -> dict[str, 
 
 def comment_of(text: str) -> str:
     """Returns the lines of the comment with which a text begins."""
-    lines = itertools.takewhile(lambda line: line.startswith("--"), text.splitlines())
+    by_hand = (line for line in text.splitlines() if not line.startswith("--" + MADE))
+    lines = itertools.takewhile(lambda line: line.startswith("--"), by_hand)
     return "\n".join(line[3:].removeprefix("---- ") for line in lines)
 
 

@@ -7,8 +7,8 @@ Rattle is Rust with contracts. These are left out:
 - `#[tactic(..)]`, `#[cfg(test)] mod tests;`, and the bound `+ Drop`;
 - `Drop` and `Error` at the end of a `derive(..)`, and `#[error(..)]`;
 - the modules that `__main__.py` lists for a crate, the imports of `UNUSED`, and each `let _bytes`;
-- the comments above a clause or an item that is left out, and the lines that mark what the widths
-  of fixed-point numbers have alike.
+- the comments above a clause or an item that is left out, and the line that says from which file the
+  source itself is made.
 
 These are changed, and nothing else:
 
@@ -40,7 +40,7 @@ from typing import Literal, NamedTuple, NoReturn
 
 import forms
 from contracts import Contracts
-from widths import MARKS
+from widths import MADE
 
 # Functions of the library that are `const` in Rust. A `const fn` of Rattle may not call `split_at`,
 # `is_empty` or `unwrap`, which that of Rust may.
@@ -134,7 +134,7 @@ class Eraser:
         self.places = [n for n, token in enumerate(self.tokens) if token.kind == "code"]
         self.words = [self.tokens[n].text for n in self.places]
         # Of each token whether it is written, and what is written before it.
-        self.kept = [token.text not in MARKS for token in self.tokens]
+        self.kept = [not it.text.startswith("//" + MADE) for it in self.tokens]
         self.put_before = [""] * (len(self.tokens) + 1)
         self.modules: list[str] = []
         self.header, self.trait_end = 0, 0

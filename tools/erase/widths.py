@@ -1,32 +1,26 @@
-"""Fixed-point numbers of 16 and of 64 bits, from the text of those of 32.
+"""Fixed-point numbers of 16 and of 64 bits, from the files of those of 32.
 
-The sources of the three types differ between `MARKS` alone: the modules of a width, its
-documentation, its struct, and what only numbers of this width have. Above and below, those of 16
-and of 64 bits are the source of 32 bits with another width, and so are their definitions and the
-proofs of their functions.
+Each is a whole file of 32 bits with another width: what the numbers of a width have, its
+definitions, and the proofs of its functions.
 """
 
 import re
 from pathlib import Path
 
-# The line above what is of one width, and the line below it.
-MARKS = (
-    "// ---- of this width alone",
-    "// ---- of each width: edit fixed_i32.rt, and run the eraser",
-)
-
 # The other widths, each with the format that examples name in place of `Fixed`.
 WIDTHS = {16: "F2Dot14", 64: "F48Dot16"}
 
-SOURCE = "crates/font_fixed/src/fixed_i32.rt"
-
-# Files that other widths have whole, and folders of such files.
+# The files of 32 bits, and folders of such files.
 WHOLE = [
+    "crates/font_fixed/src/fixed_i32/common.rt",
     "crates/font_fixed/specs/FixedI32.antt",
     "crates/font_fixed/proofs/fixed_i32/FixedI32",
     "crates/font_fixed/proofs/rounding/floor_bits_32",
     "crates/font_fixed/proofs/rounding/round_bits_32",
 ]
+
+# What a file that is made begins with, after the sign of a comment.
+MADE = " @generated from "
 
 
 def tree(root: Path) -> tuple[dict[str, str], set[str]]:
@@ -34,19 +28,12 @@ def tree(root: Path) -> tuple[dict[str, str], set[str]]:
     files: dict[str, str] = {}
     old: set[str] = set()
     for width, name in WIDTHS.items():
-        path = of_width(SOURCE, width, name)
-        alike = [of_width(part, width, name) for part in parts(root / SOURCE)]
-        files[path] = "".join([alike[0], MARKS[0], parts(root / path)[2], MARKS[1], alike[4]])
         for path in [path for folder in WHOLE for path in whole(root, folder)]:
-            text = (root / path).read_text()
-            files[of_width(path, width, name)] = of_width(text, width, name)
+            sign, text = "//" if path.endswith(".rt") else "--", (root / path).read_text()
+            head = f"{sign}{MADE}{path} by tools/erase\n"
+            files[of_width(path, width, name)] = head + of_width(text, width, name)
         old.update(path for folder in WHOLE for path in whole(root, of_width(folder, width, name)))
     return files, old
-
-
-def parts(path: Path) -> list[str]:
-    """Returns a source above, between and below its marks, which are parts of it too."""
-    return re.split("(" + "|".join(MARKS) + ")", path.read_text())
 
 
 def whole(root: Path, path: str) -> list[str]:

@@ -90,7 +90,10 @@ class Erasure(unittest.TestCase):
 
     def test_committed_files(self) -> None:
         """It writes what has another text or is gone, removes what is extra, and nothing else."""
-        width, changed = "crates/font_fixed/src/fixed_i16.rt", "c/src/generated/font_c/laws.rs"
+        width, changed = (
+            "crates/font_fixed/src/fixed_i16/common.rt",
+            "c/src/generated/font_c/laws.rs",
+        )
         gone, extra = "src/generated/font_tags/tag.rs", "tests/generated/rows/extra.rs"
         for path in width, changed, extra:
             with open(self.folder / path, "a") as file:

@@ -312,6 +312,19 @@ class Tests(unittest.TestCase):
         self.assertEqual(wrong, [])
 
 
+class Generated(unittest.TestCase):
+    def test_first_lines(self) -> None:
+        """A file is generated, and reviews hide it, if and only if its first line names its source."""
+        made = re.compile(r"(//|--) @generated from (\S+) by tools/erase\n")
+        files = of("", ".rs", ".rt", ".antt")
+        found = {path: it[2] for path in files if (it := made.match(text(path)))}
+        shown = run("git", "check-attr", "linguist-generated", *files)
+        hidden = {it.split(":")[0] for it in shown if it.endswith(": set")}
+        self.assertEqual(set(found), hidden)
+        missing = {it for it in found.values() if "*" not in it} - set(FILES)
+        self.assertEqual(missing, set())
+
+
 class Items(unittest.TestCase):
     def test_items(self) -> None:
         for path, item in ITEMS:

@@ -1,3 +1,4 @@
+-- @generated from crates/font_fixed/specs/FixedI32.antt by tools/erase
 -- 16-bit fixed-point numbers with F fraction bits.
 use Rattle.std.specs.Prelude.{ℕ, ℤ, List}
 use Rattle.font_decimal.specs.Shortest.{shortest_text}

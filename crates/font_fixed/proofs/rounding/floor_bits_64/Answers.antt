@@ -1,3 +1,4 @@
+-- @generated from crates/font_fixed/proofs/rounding/floor_bits_32/Answers.antt by tools/erase
 use Rattle.std.proofs.Common.{refl, w64}
 use Rattle.font_fixed.proofs.Rounds.{shifted_is_floor}
 use Rattle.font_fixed.proofs.rounding.floor_bits_64.Goals as goal

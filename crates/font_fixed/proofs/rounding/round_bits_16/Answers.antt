@@ -1,3 +1,4 @@
+-- @generated from crates/font_fixed/proofs/rounding/round_bits_32/Answers.antt by tools/erase
 use Rattle.std.proofs.Common.{rules, refl, ◌≡◌, w16}
 use Rattle.font_fixed.proofs.{Rounds.nearest_is, Rounds.no_nearest, rounding.round_bits_16.Goals.After-floor_bits_16}
 use Rattle.font_fixed.specs.Rounding.{rounded}

@@ -1,3 +1,4 @@
+-- @generated from crates/font_fixed/proofs/fixed_i32/FixedI32/ceil/Answers.antt by tools/erase
 use Rattle.std.proofs.Common.{rules, refl, w16}
 use Rattle.font_fixed.proofs.Ceilings.{rest_fits, ceiling_wraps}
 use Rattle.font_fixed.proofs.fixed_i16.FixedI16.ceil.Goals as goal

@@ -1,3 +1,4 @@
+-- @generated from crates/font_fixed/proofs/fixed_i32/FixedI32/round/Answers.antt by tools/erase
 use Rattle.std.proofs.Common.{rules, refl, w16}
 use Rattle.font_fixed.proofs.Rounds.{whole_is, nearest_kept}
 use Rattle.font_fixed.proofs.fixed_i16.FixedI16.round.Goals as goal

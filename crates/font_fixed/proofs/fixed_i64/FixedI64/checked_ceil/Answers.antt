@@ -1,3 +1,4 @@
+-- @generated from crates/font_fixed/proofs/fixed_i32/FixedI32/checked_ceil/Answers.antt by tools/erase
 use Rattle.std.proofs.Common.{rules, refl, w64}
 use Rattle.font_fixed.specs.FixedI64.{bits_of}
 use Rattle.font_fixed.proofs.{Ceilings.rest_fits, Ceilings.ceiling_is, Ceilings.no_ceiling}

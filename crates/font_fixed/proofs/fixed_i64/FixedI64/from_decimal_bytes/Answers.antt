@@ -1,3 +1,4 @@
+-- @generated from crates/font_fixed/proofs/fixed_i32/FixedI32/from_decimal_bytes/Answers.antt by tools/erase
 use Rattle.std.proofs.Common.{refl, lit≤, rules, w64}
 use Rattle.font_fixed.proofs.Texts.{reads_by}
 use Rattle.font_fixed.specs.FixedI64.{bits_of, of_bits}
