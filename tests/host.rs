@@ -123,6 +123,30 @@ impl io::Read for Drip<'_> {
     }
 }
 
+/// A reader that reads two parts, each in a call of its own.
+struct Parts<'a>(&'a [u8], &'a [u8]);
+
+impl io::Read for Parts<'_> {
+    fn read(&mut self, bytes: &mut [u8]) -> io::Result<usize> {
+        if self.0.is_empty() {
+            self.0 = std::mem::take(&mut self.1);
+        }
+        self.0.read(bytes)
+    }
+}
+
+// A line begins in one read and ends in another, at each place of each stored line.
+#[test]
+fn reads_that_cut_lines() {
+    for end in 0..=LINES.len() {
+        let mut source = FromRead::new(Parts(&LINES[..end], &LINES[end..]));
+        let mut taken = [0; ANSWERS.len()];
+        let mut sink = FromWrite::new(taken.as_mut_slice());
+        assert!(serve(Global, &mut source, &mut sink).is_ok());
+        assert!(taken == *ANSWERS, "cut at byte {end}");
+    }
+}
+
 // Each allocation of a run over the stored lines fails in turn, until none is left that could.
 #[test]
 fn serve_allocation_errors() {

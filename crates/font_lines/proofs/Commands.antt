@@ -1,13 +1,13 @@
 -- The bytes that a read number gives, and that an input has one output: each definition on the way from a line to its
 -- text has one result.
-use Rattle.std.proofs.Common.{◌≡◌, ℕ, List, refl, sym, Result, rules, [], ◌∷◌, ◌++◌, Ok, ◌∙◌, ℤ, ◌/◌, Bool, arith}
+use Rattle.std.proofs.Common.{◌≡◌, ℕ, List, refl, sym, Result, rules, [], ◌∷◌, ◌++◌, Ok, ◌∙◌, ℤ, ◌/◌, Bool, arith, ap}
 use Rattle.std.proofs.Common.{append_assoc, append-nil, length, slice_index}
 use Rattle.font_lines.specs.Command.{AnswersWords, ReportsTag, IsNamedType, ShowsParsed, fixed_row, IsAnswer, IsNamed}
 use Rattle.font_lines.specs.Command.{ShowsBytes}
 use Rattle.font_lines.specs.Numbers.{ScansNumber, ScansFixed, ScansInteger, ScansTerm, CollectsEach, CollectsFixed}
 use Rattle.font_lines.specs.Numbers.{CollectsTerms, AndThen, pairs_of}
 use Rattle.font_lines.specs.declared.command.Command.TheVariants.{FixedPoint, Read, Image, Vary, Integer, Tag, Sum}
-use Rattle.font_lines.specs.Answers.{Answers, AnswersLine, AnswersLines, AppendsAnswer}
+use Rattle.font_lines.specs.Answers.{Answers, AnswersLine, AnswersLines, AppendsAnswer, AppendsAnswers}
 use Rattle.font_lines.specs.{Error.Answer, Error.GivesAnswer, declared.error.LineError.LineError}
 use Rattle.font_lines.specs.{declared.error.CommandError.CommandError, Deltas.Varies, Deltas.varied_answer}
 use Rattle.font_lines.specs.{Images.ShowsImages, declared.command.Command.Command, declared.command.FixedType.FixedType}
@@ -156,23 +156,35 @@ answers_of_parts front second a b whole first then_b given =
 
 -- ---- line after line
 -- the output answers the input before `left`: the answers to the lines of `left` complete it
-pub record IsAnsweredUpTo (input left output : List ℕ) : Type 0 where
-  pub completes : (rest : List ℕ) → AnswersLines (lines_of left) rest → Answers input (output ++ rest)
+pub record IsAnsweredUpTo (input left old output : List ℕ) : Type 0 where
+  pub completes : (rest : List ℕ) → AnswersLines (lines_of left) rest → AppendsAnswers input old (output ++ rest)
+
+-- no line is answered
+pub answered_none : (input old : List ℕ) → IsAnsweredUpTo input input old old
+answered_none input old = record {
+  completes = λ rest others. record { text = rest; answers = others; appended = refl };
+}
 
 -- one line more is answered, and followed by a line feed
-pub answered_more : (input left left' line output output' : List ℕ)
-    → IsAnsweredUpTo input left output
+pub answered_more : (input left left' line old output output' : List ℕ)
+    → IsAnsweredUpTo input left old output
     → lines_of left ≡ line ∷ lines_of left'
     → AppendsAnswer line output output'
-    → IsAnsweredUpTo input left' (output' ++ 10 ∷ [])
-answered_more input left left' line output output' so_far next one = record {
+    → IsAnsweredUpTo input left' old (output' ++ 10 ∷ [])
+answered_more input left left' line old output output' so_far next one = record {
   completes = λ rest others. simp (one.appended, append_assoc) (so_far.completes (one.text ++ 10 ∷ rest)
       (rw next (record { text = one.text; rest = rest; answers = one.answers; others = others; joined = refl })));
 }
 
 -- when no line is left, the whole input is answered
-pub answered_all : (input left output : List ℕ) → IsAnsweredUpTo input left output → lines_of left ≡ []
-    → Answers input output
-answered_all input left output so_far none = rw append-nil at (so_far.completes [] (rw none refl))
+pub answered_all : (input left old output : List ℕ) → IsAnsweredUpTo input left old output → lines_of left ≡ []
+    → AppendsAnswers input old output
+answered_all input left old output so_far none = rw append-nil at (so_far.completes [] (rw none refl))
 
-pub ruleset answer_steps = (answered_more, answered_all, one_output)
+-- by the input's one output
+pub answered_only : (input old output other : List ℕ) → AppendsAnswers input old output → Answers input other
+    → output ≡ old ++ other
+answered_only input old output other one given =
+    one.appended ∙ ap (λ text. old ++ text) (one_output (lines_of input) one.text other one.answers given)
+
+pub ruleset answer_steps = (answered_none, answered_more, answered_all, answered_only)

@@ -3,3 +3,4 @@ pub mod Commands
 pub mod Writes
 pub mod Lines
 pub mod Integers
+pub mod InTurn

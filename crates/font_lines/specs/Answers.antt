@@ -33,3 +33,9 @@ AnswersLines (line ∷ lines) output = BeginsWithAnswer line (AnswersLines lines
 -- the output is the program's answer to the input
 abbrev pub Answers : List ℕ → List ℕ → Type 0
 Answers input output = AnswersLines (lines_of input) output
+
+-- the text grows by the answers to the input
+pub record AppendsAnswers (input old new : List ℕ) : Type 0 where
+  pub text : List ℕ
+  pub answers : Answers input text
+  pub appended : new ≡ old ++ text

@@ -1,8 +1,9 @@
 -- The contract of a run.
-use Rattle.std.specs.Prelude.{◌≡◌, ◌≢◌, ℕ, Bool, true, false, List, [], ◌∷◌, ◌++◌, codes, Option, Result, Ok, Err}
+use Rattle.std.specs.Prelude.{◌≡◌, ◌≢◌, ℕ, ◌<◌, ◌+◌, Bool, true, false, List, [], ◌∷◌, ◌++◌, codes, Option, Result, Ok}
+use Rattle.std.specs.Prelude.{Err, All, length, drop, get_or, ◌⊎◌}
 use Rattle.std.specs.Io.KnownBytes.{Appends, Consumes, IsAtEnd}
 use Rattle.font_lines.specs.declared.serve.ServeFault.TheVariants.{Memory, Read, Write}
-use Rattle.font_lines.specs.{declared.serve.ServeFault.ServeFault, Answers.Answers}
+use Rattle.font_lines.specs.{declared.serve.ServeFault.ServeFault, Answers.Answers, Answers.AppendsAnswers}
 
 -- All that a source had left was read, and the sink took the answers to it and nothing else. `left`
 -- and `taken` are the bytes that are known of the source and the sink.
@@ -25,10 +26,35 @@ pub record ServesInPart (left left' taken taken' : Option (List ℕ)) : Type 0 w
   pub partial : unwritten ≢ []
   pub written : Appends taken taken' output
 
--- all that a source had left was read
-pub record ReadsAll (left left' : Option (List ℕ)) (input : List ℕ) : Type 0 where
+-- all that a source had left was read, and the output answers it
+pub record AnswersAll (left left' : Option (List ℕ)) (output : List ℕ) : Type 0 where
+  pub input : List ℕ
   pub read : Consumes left left' input
   pub ended : IsAtEnd left'
+  pub answers : Answers input output
+
+-- no byte is a line feed
+abbrev pub HasNoEnd : List ℕ → Type 0
+HasNoEnd bytes = All (λ byte. byte ≢ 10) bytes
+
+-- no line, or lines of which the last has its line feed too
+abbrev pub AreEnded : List ℕ → Type 0
+AreEnded bytes = (bytes ≡ []) ⊎ ((front : List ℕ) × (bytes ≡ front ++ 10 ∷ []))
+
+-- the last line feed of the bytes is at the index
+pub record IsLastEnd (bytes : List ℕ) (at : ℕ) : Type 0 where
+  pub inside : at < length bytes
+  pub here : get_or bytes at 0 ≡ 10
+  pub rest : HasNoEnd (drop (at + 1) bytes)
+
+-- The output grows by the answers to the lines that end in the bytes. What is left is the beginning of a line, and
+-- maybe empty.
+pub record AnswersEnded (bytes begun old new : List ℕ) : Type 0 where
+  pub ended : List ℕ
+  pub parts : bytes ≡ ended ++ begun
+  pub are_ended : AreEnded ended
+  pub answers : AppendsAnswers ended old new
+  pub is_begun : HasNoEnd begun
 
 -- some of the bytes were written, from the first on, and not all
 pub record WritesInPart (taken taken' : Option (List ℕ)) (bytes : List ℕ) : Type 0 where

@@ -1,7 +1,7 @@
 //! The answers to the lines of an input.
 
-ghost use Rattle.std.specs.Prelude.{◌≡◌, ℕ, List, IfOk, OnOk};
-ghost use Rattle.font_lines.specs.Answers.{AppendsAnswer, Answers};
+ghost use Rattle.std.specs.Prelude.{◌≡◌, ℕ, List, ◌++◌, OnOk};
+ghost use Rattle.font_lines.specs.Answers.{AppendsAnswer, AppendsAnswers, Answers};
 ghost use Rattle.font_lines.specs.{Command.IsAnswer, Error.GivesAnswer, Text.words_of};
 
 use crate::command::Command;
@@ -9,19 +9,23 @@ use crate::error::{CommandError, LineError};
 use crate::text::{Lines, Words};
 use std::alloc::{AllocError, Allocator};
 
-/// Returns the answers to the lines of an input, each followed by a line feed.
+/// Appends the answers to the lines of an input, each followed by a line feed.
 #[tactic(auto, using(crate::proofs::Commands::answer_steps))]
-pub fn answers<A: Allocator + Copy>(alloc: A, input: &[u8]) -> Result<Vec<u8, A>, AllocError>
-    ensures answers { IfOk result (λ output. Answers input.now output.items) }
-    ensures only { IfOk result (λ output. (other : List ℕ)
-        → Answers input.now other → other ≡ output.items) }
+pub fn append_answers<A: Allocator + Copy>(
+    alloc: A,
+    input: &[u8],
+    output: &mut Vec<u8, A>,
+) -> Result<(), AllocError>
+    ensures answers { OnOk result
+        (AppendsAnswers input.now output.old.items output.new.items) }
+    ensures only { OnOk result ((other : List ℕ)
+        → Answers input.now other → output.new.items ≡ output.old.items ++ other) }
 {
-    let mut output = Vec::new(alloc);
     for line in Lines::new(input) {
-        append_answer(alloc, line, &mut output)?;
+        append_answer(alloc, line, output)?;
         output.push(b'\n')?;
     }
-    Ok(output)
+    Ok(())
 }
 
 // Appends the answer to a line.

@@ -1,11 +1,13 @@
-//! A run: reads all input, makes all answers, and then writes them.
+//! A run: answers each line once it is read, and writes the answers when the input ends.
 
-ghost use Rattle.std.specs.Prelude.{◌≡◌, Ok, Err, true, false, IfOk, IfErr, OnOk, OnErr};
+ghost use Rattle.std.specs.Prelude.{◌≡◌, ◌++◌, Ok, Err, None, true, false, IfOk, IfErr, OnOk};
+ghost use Rattle.std.specs.Prelude.{OnErr, IfSome};
 ghost use Rattle.std.specs.Io.KnownBytes.{Appends, Keeps};
 ghost use Rattle.font_lines.specs.declared.serve.ServeFault.{ServeFault};
-ghost use Rattle.font_lines.specs.Serve.{Serves, ServesInPart, ReadsAll, WritesInPart, ReadFails};
+ghost use Rattle.font_lines.specs.Serve.{Serves, ServesInPart, AnswersAll, WritesInPart, ReadFails};
+ghost use Rattle.font_lines.specs.Serve.{AnswersEnded, HasNoEnd, IsLastEnd};
 
-use crate::answers::answers;
+use crate::answers::append_answers;
 use crate::device::{Sink, Source};
 use std::alloc::{AllocError, Allocator};
 use thiserror::Error;
@@ -13,7 +15,7 @@ use thiserror::Error;
 /// Why a run failed.
 #[derive(Debug, Drop, Error)]
 pub enum ServeFault {
-    /// Out of memory for the input or for the answers.
+    /// Out of memory for a line or for the answers.
     #[error("memory")]
     Memory = 1,
     /// A read failed.
@@ -68,30 +70,66 @@ pub fn serve<A: Allocator + Copy, S: Source, K: Sink>(
     ensures write_failed { result ≡ Err ServeFault.Write
         → (S.failed source.new ≡ false) × (K.failed sink.new ≡ true) }
 {
-    let input = read_all(alloc, source)?;
-    let output = answers(alloc, &input)?;
+    let output = answer_all(alloc, source)?;
     write_all(sink, &output)
 }
 
-// Reads a source to its end.
-fn read_all<A: Allocator, S: Source>(alloc: A, source: &mut S) -> Result<Vec<u8, A>, ServeFault>
+// Reads a source to its end, and returns the answers to its lines. Of what it has read, it keeps
+// one block and the line that has begun.
+#[tactic(auto, using(crate::proofs::InTurn::steps_of_blocks))]
+fn answer_all<A: Allocator + Copy, S: Source>(
+    alloc: A,
+    source: &mut S,
+) -> Result<Vec<u8, A>, ServeFault>
     requires { S.failed source.old ≡ false }
-    ensures ok { IfOk result (λ input.
-        ReadsAll (S.left source.old) (S.left source.new) input.items) }
+    ensures ok { IfOk result (λ output.
+        AnswersAll (S.left source.old) (S.left source.new) output.items) }
     ensures ok_works { OnOk result (S.failed source.new ≡ false) }
     ensures err { IfErr result (λ fault. ReadFails fault (S.failed source.new)) }
 {
-    let mut input = Vec::new(alloc);
+    let mut output = Vec::new(alloc);
+    let mut begun = Vec::new(alloc);
     let mut block = [0; READ_SIZE];
     loop {
         let Ok(count) = source.read(&mut block) else {
             return Err(ServeFault::Read);
         };
         if count == 0 {
-            return Ok(input);
+            append_answers(alloc, &begun, &mut output)?;
+            return Ok(output);
         }
-        input.extend_from_slice(&block[..count])?;
+        append_ended(alloc, &block[..count], &mut begun, &mut output)?;
     }
+}
+
+// Appends the answers to the lines that end in a block, and keeps the line that begins there.
+#[tactic(auto, using(crate::proofs::InTurn::steps_of_one_block))]
+fn append_ended<A: Allocator + Copy>(
+    alloc: A,
+    block: &[u8],
+    begun: &mut Vec<u8, A>,
+    output: &mut Vec<u8, A>,
+) -> Result<(), AllocError>
+    requires begun { HasNoEnd begun.old.items }
+    ensures { OnOk result (AnswersEnded (begun.old.items ++ block.now) begun.new.items
+        output.old.items output.new.items) }
+{
+    let Some(last) = last_line_feed_at(block) else {
+        return begun.extend_from_slice(block);
+    };
+    let (ended, rest) = block.split_at(last + 1);
+    begun.extend_from_slice(ended)?;
+    append_answers(alloc, begun, output)?;
+    begun.clear();
+    begun.extend_from_slice(rest)
+}
+
+// Returns the index of the last line feed.
+fn last_line_feed_at(bytes: &[u8]) -> Option<usize>
+    ensures some { IfSome result (IsLastEnd bytes.now) }
+    ensures none { result ≡ None → HasNoEnd bytes.now }
+{
+    bytes.iter().rposition(|byte| *byte == b'\n')
 }
 
 // Writes all bytes.

@@ -49,6 +49,10 @@ impl<T, A: Allocator> Vec<T, A> {
         self.items.extend_from_slice(items);
         Ok(())
     }
+
+    pub fn clear(&mut self) {
+        self.items.clear();
+    }
 }
 
 impl<T, A> Deref for Vec<T, A> {

@@ -9,14 +9,17 @@ use crate::font_lines::error::{CommandError, LineError};
 use crate::font_lines::text::{Lines, Words};
 use crate::host::alloc::{AllocError, Allocator};
 
-/// Returns the answers to the lines of an input, each followed by a line feed.
-pub fn answers<A: Allocator + Copy>(alloc: A, input: &[u8]) -> Result<Vec<u8, A>, AllocError> {
-    let mut output = Vec::new(alloc);
+/// Appends the answers to the lines of an input, each followed by a line feed.
+pub fn append_answers<A: Allocator + Copy>(
+    alloc: A,
+    input: &[u8],
+    output: &mut Vec<u8, A>,
+) -> Result<(), AllocError> {
     for line in Lines::new(input) {
-        append_answer(alloc, line, &mut output)?;
+        append_answer(alloc, line, output)?;
         output.push(b'\n')?;
     }
-    Ok(output)
+    Ok(())
 }
 
 // Appends the answer to a line.

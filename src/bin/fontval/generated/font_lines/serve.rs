@@ -1,17 +1,17 @@
 // @generated from crates/font_lines/src/serve.rt by tools/erase
 
-//! A run: reads all input, makes all answers, and then writes them.
+//! A run: answers each line once it is read, and writes the answers when the input ends.
 
 use crate::host::*;
 
-use crate::font_lines::answers::answers;
+use crate::font_lines::answers::append_answers;
 use crate::font_lines::device::{Sink, Source};
 use crate::host::alloc::{AllocError, Allocator};
 
 /// Why a run failed.
 #[derive(Debug)]
 pub enum ServeFault {
-    /// Out of memory for the input or for the answers.
+    /// Out of memory for a line or for the answers.
     Memory = 1,
     /// A read failed.
     Read = 2,
@@ -50,24 +50,51 @@ pub fn serve<A: Allocator + Copy, S: Source, K: Sink>(
     source: &mut S,
     sink: &mut K,
 ) -> Result<(), ServeFault> {
-    let input = read_all(alloc, source)?;
-    let output = answers(alloc, &input)?;
+    let output = answer_all(alloc, source)?;
     write_all(sink, &output)
 }
 
-// Reads a source to its end.
-fn read_all<A: Allocator, S: Source>(alloc: A, source: &mut S) -> Result<Vec<u8, A>, ServeFault> {
-    let mut input = Vec::new(alloc);
+// Reads a source to its end, and returns the answers to its lines. Of what it has read, it keeps
+// one block and the line that has begun.
+fn answer_all<A: Allocator + Copy, S: Source>(
+    alloc: A,
+    source: &mut S,
+) -> Result<Vec<u8, A>, ServeFault> {
+    let mut output = Vec::new(alloc);
+    let mut begun = Vec::new(alloc);
     let mut block = [0; READ_SIZE];
     loop {
         let Ok(count) = source.read(&mut block) else {
             return Err(ServeFault::Read);
         };
         if count == 0 {
-            return Ok(input);
+            append_answers(alloc, &begun, &mut output)?;
+            return Ok(output);
         }
-        input.extend_from_slice(&block[..count])?;
+        append_ended(alloc, &block[..count], &mut begun, &mut output)?;
     }
+}
+
+// Appends the answers to the lines that end in a block, and keeps the line that begins there.
+fn append_ended<A: Allocator + Copy>(
+    alloc: A,
+    block: &[u8],
+    begun: &mut Vec<u8, A>,
+    output: &mut Vec<u8, A>,
+) -> Result<(), AllocError> {
+    let Some(last) = last_line_feed_at(block) else {
+        return begun.extend_from_slice(block);
+    };
+    let (ended, rest) = block.split_at(last + 1);
+    begun.extend_from_slice(ended)?;
+    append_answers(alloc, begun, output)?;
+    begun.clear();
+    begun.extend_from_slice(rest)
+}
+
+// Returns the index of the last line feed.
+fn last_line_feed_at(bytes: &[u8]) -> Option<usize> {
+    bytes.iter().rposition(|byte| *byte == b'\n')
 }
 
 // Writes all bytes.
