@@ -1,9 +1,11 @@
 -- The printed text of tags.
-use Rattle.std.proofs.Common.{◌≡◌, ℕ, ◌/◌, ◌%◌, ◌<◌, ◌⊎◌, true, arith, Some, List, [], ◌∷◌}
-use Rattle.std.proofs.{lemmas.Fmt.hex_byte, lemmas.Bool.Decides.nat_tests}
-use Rattle.std.specs.Fmt.{digits, digit_glyph, format_spec, styled_digits_output, digits_output, DisplaysOnOk}
-use Rattle.std.specs.Fmt.{WritesOnOk, ◌++?◌}
-use Rattle.font_tags.specs.Tag.{byte_text}
+use Rattle.std.proofs.Common.{◌≡◌, ℕ, ◌/◌, ◌%◌, ◌<◌, ◌⊎◌, true, arith, List, [], ◌∷◌, ◌++◌, ap, ◌∙◌, ◌+◌, length, take}
+use Rattle.std.proofs.Common.{get_or, append-nil}
+use Rattle.std.proofs.lemmas.List.{take_more}
+use Rattle.std.proofs.{lemmas.Bool.Decides.nat_tests, lemmas.List.Folds.concat-append, lemmas.Grind.flat_map-append}
+use Rattle.std.specs.Fmt.{digit_glyph, HasWrittenStyled}
+use Rattle.std.specs.List.{FoldsTo, concat}
+use Rattle.font_tags.specs.Tag.{byte_text, tag_text}
 
 -- a byte outside 0x20 to 0x7E
 abbrev pub IsHidden : ℕ → Type 0
@@ -13,10 +15,39 @@ pub byte_text-hidden : (byte : ℕ) → IsHidden byte → byte_text byte ≡ 123
     ∷ digit_glyph true (byte % 16) ∷ 125 ∷ []
 byte_text-hidden byte hidden = grind (arith, nat_tests)
 
--- `{:02X}` of a byte
-pub hidden_written : {W : Type 0} (took : W → List ℕ → W → Type 0) (f : _) (r : _) (g : _) (d : _) (s : _) (byte : ℕ)
-    → byte < 256 → IsHidden byte → digits_output d ≡ Some (digits 16 true byte)
-    → s ≡ format_spec 32 0 4 2 18446744073709551615
-    → DisplaysOnOk took f r (Some (123 ∷ 48 ∷ 120 ∷ []) ++? styled_digits_output d s ++? Some (125 ∷ [])) g
-    → WritesOnOk took f r (byte_text byte) g
-hidden_written took f r g d s byte small hidden output spec written = grind (arith, byte_text-hidden, hex_byte)
+-- ---- written under any options, one text after another
+folds_both : {P A : Type 0} (R : P → A → P → Type 0) (p q r : P) (xs ys : List A) → FoldsTo R p xs q → FoldsTo R q ys r
+    → FoldsTo R p (xs ++ ys) r
+folds_both R p q r [] ys first second = grind (arith, first, second)
+folds_both R p q r (x ∷ xs) ys first second = (first.0, first.1, folds_both R first.0 q r xs ys first.2 second)
+
+pub then_written : {W : Type 0} (took : W → List ℕ → W → Type 0) (f g h : _) (a b : List ℕ)
+    → HasWrittenStyled {W = W} took f a g → HasWrittenStyled took g b h → HasWrittenStyled took f (a ++ b) h
+then_written took f g h a b first second = record {
+  wrote = record {
+    parts = first.wrote.parts ++ second.wrote.parts;
+    calls = folds_both took _ _ _ first.wrote.parts second.wrote.parts first.wrote.calls second.wrote.calls;
+    whole = concat-append first.wrote.parts second.wrote.parts ∙ ap (λ z. z ++ concat second.wrote.parts) first.wrote.whole ∙ ap (λ z. a ++ z) second.wrote.whole;
+  };
+  spec = second.spec ∙ first.spec;
+  flush = second.flush;
+}
+
+-- the parts of a hidden byte
+pub hidden_written : {W : Type 0} (took : W → List ℕ → W → Type 0) (f g h i k : _) (byte : ℕ) → IsHidden byte
+    → HasWrittenStyled {W = W} took f (123 ∷ 48 ∷ 120 ∷ []) g
+    → HasWrittenStyled took g (digit_glyph true (byte / 16) ∷ []) h
+    → HasWrittenStyled took h (digit_glyph true (byte % 16) ∷ []) i → HasWrittenStyled took i (125 ∷ []) k
+    → HasWrittenStyled took f (byte_text byte) k
+hidden_written took f g h i k byte hidden one two three four = rw (byte_text-hidden byte hidden)
+    (then_written took f g k _ _ one (then_written took g h k _ _ two (then_written took h i k _ _ three four)))
+
+-- one byte more of a tag
+pub one_more_byte : {W : Type 0} (took : W → List ℕ → W → Type 0) (f g h : _) (bytes : List ℕ) (i : ℕ) → i < length bytes
+    → HasWrittenStyled {W = W} took f (tag_text (take i bytes)) g → HasWrittenStyled took g (byte_text (get_or bytes i 0)) h
+    → HasWrittenStyled took f (tag_text (take (i + 1) bytes)) h
+one_more_byte took f g h bytes i inside first second =
+    rw (take_more bytes i 0 inside, flat_map-append byte_text (take i bytes) (get_or bytes i 0 ∷ []), append-nil)
+    (then_written took f g h _ _ first second)
+
+pub ruleset styled_steps = (then_written, hidden_written, one_more_byte)

@@ -1,9 +1,10 @@
 //! Four-byte tags.
 
-ghost use Rattle.std.specs.Prelude.{◌≡◌, ◌≢◌, ◌<◌, ◌≤◌, ◌++◌, ◌↔◌, ℕ, pos, Some, IsTrue, IsOk};
-ghost use Rattle.std.specs.Prelude.{IfOk, MatchOption, slice_index, length, refl};
+ghost use Rattle.std.specs.Prelude.{◌≡◌, ◌≢◌, ◌<◌, ◌≤◌, ◌++◌, ◌↔◌, ℕ, pos, Some, IsTrue, IsOk, ◌∷◌};
+ghost use Rattle.std.specs.Prelude.{[], true, IfOk, MatchOption, slice_index, length, refl};
 ghost use Rattle.std.specs.Cmp.Lexicographic.{slice_cmp, texts_po, on_texts, texts_ties};
-ghost use Rattle.std.specs.{Cmp.on_po, Ordering.on, Ordering.nat_cmp, Fmt.WritesOnOk};
+ghost use Rattle.std.specs.{Cmp.on_po, Ordering.on, Ordering.nat_cmp, Fmt.WritesStyledOnOk};
+ghost use Rattle.std.specs.{Fmt.digit_glyph};
 ghost use lib.Chars.{codes};
 ghost use Rattle.font_base.specs.Bytes.{are_bytes, bytes_of, numeral};
 ghost use Rattle.font_tags.specs.Tag.{tag_bytes, tag_of, four_spaces, IsVisible, IsGood, IsFault};
@@ -282,6 +283,9 @@ impl Default for Tag {
 impl fmt::Display for Tag {
     ghost output = { λ tag. Some (tag_text (tag_bytes tag)) };
 
+    ghost styled_output = { λ tag _. Some (tag_text (tag_bytes tag)) };
+
+    #[tactic(auto, using(crate::proofs::TagText::styled_steps))]
     fn fmt<W: fmt::Write>(&self, f: &mut fmt::Formatter<W>) -> fmt::Result {
         for byte in &self.0 {
             write_byte(f, *byte)?;
@@ -291,13 +295,36 @@ impl fmt::Display for Tag {
 }
 
 // Writes a byte as in the text of a tag.
+#[tactic(auto, using(crate::proofs::TagText::styled_steps))]
 fn write_byte<W: fmt::Write>(f: &mut fmt::Formatter<W>, byte: u8) -> fmt::Result
-    ensures { WritesOnOk W.write_str_gives f.old result (byte_text byte) f.new }
+    ensures { WritesStyledOnOk W.write_str_gives f.old result (byte_text byte) f.new }
 {
     match byte {
-        0x20..=0x7E => f.write_str(char::from(byte).encode_utf8(&mut [0; 4])),
-        _ => write!(f, "{{0x{byte:02X}}}"),
+        0x20..=0x7E => write_ascii(f, byte),
+        _ => {
+            f.write_str("{0x")?;
+            write_ascii(f, hexadecimal_digit(byte / 16))?;
+            write_ascii(f, hexadecimal_digit(byte % 16))?;
+            f.write_str("}")
+        }
     }
+}
+
+// Writes an ASCII character.
+fn write_ascii<W: fmt::Write>(f: &mut fmt::Formatter<W>, byte: u8) -> fmt::Result
+    requires { byte < 128 }
+    ensures { WritesStyledOnOk W.write_str_gives f.old result (byte ∷ []) f.new }
+{
+    f.write_str(char::from(byte).encode_utf8(&mut [0; 4]))
+}
+
+// Returns the hexadecimal digit of a number below 16.
+fn hexadecimal_digit(n: u8) -> u8
+    requires { n < 16 }
+    ensures digit { result ≡ digit_glyph true n }
+    ensures ascii { result < 128 }
+{
+    if n < 10 { b'0' + n } else { b'A' + (n - 10) }
 }
 
 impl fmt::Debug for Tag {

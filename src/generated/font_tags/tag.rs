@@ -393,6 +393,7 @@ impl Default for Tag {
 ///
 /// ```text
 /// ghost output = { λ tag. Some (tag_text (tag_bytes tag)) };
+/// ghost styled_output = { λ tag _. Some (tag_text (tag_bytes tag)) };
 /// ```
 /// [Notation](crate::definitions): [`tag_text`], [`tag_bytes`]
 /// </details>
@@ -409,9 +410,26 @@ impl fmt::Display for Tag {
 #[inline]
 fn write_byte(f: &mut fmt::Formatter<'_>, byte: u8) -> fmt::Result {
     match byte {
-        0x20..=0x7E => f.write_str(char::from(byte).encode_utf8(&mut [0; 4])),
-        _ => write!(f, "{{0x{byte:02X}}}"),
+        0x20..=0x7E => write_ascii(f, byte),
+        _ => {
+            f.write_str("{0x")?;
+            write_ascii(f, hexadecimal_digit(byte / 16))?;
+            write_ascii(f, hexadecimal_digit(byte % 16))?;
+            f.write_str("}")
+        }
     }
+}
+
+// Writes an ASCII character.
+#[inline]
+fn write_ascii(f: &mut fmt::Formatter<'_>, byte: u8) -> fmt::Result {
+    f.write_str(char::from(byte).encode_utf8(&mut [0; 4]))
+}
+
+// Returns the hexadecimal digit of a number below 16.
+#[inline]
+fn hexadecimal_digit(n: u8) -> u8 {
+    if n < 10 { b'0' + n } else { b'A' + (n - 10) }
 }
 
 /// <details><summary>Contract</summary>
