@@ -16,7 +16,7 @@ from edits import edits
 from eraser import LIBRARY, Crate, Eraser
 
 # Clauses of no name, of std and of a call, and what an edit adds.
-OF_OTHERS = {"ensures", "steps", "exact", "place", "decode"}
+OF_OTHERS = {"ensures", "steps", "exact", "place", "decode", "styled"}
 OF_EDITS = {"call of decode", "five bytes", "Level"}
 
 # Files of `font_fixed` whose public functions take raw values, and are not in the package's API.

@@ -143,7 +143,7 @@ class Pages(unittest.TestCase):
             self.fail("\n".join(["", *wrong]))
 
     def test_shown_code(self) -> None:
-        # README shows a contract and a definition, CALLING a file.
+        # README shows a contract and a definition, CALLING and CONTRIBUTING a file.
         files = ["src/reader.rt", "specs/Reading.antt"]
         source = squeezed("".join(text(f"crates/font_decimal/{file}") for file in files))
         _, page = text("README.md").split("## What a contract looks like")
@@ -152,6 +152,9 @@ class Pages(unittest.TestCase):
             self.assertTrue(squeezed(block) in source, block)
         file, after = text("docs/CALLING.md").split("](../crates/callers/", 1)[1].split(")", 1)
         self.assertEqual(after.split("```")[1].split("\n", 1)[1], text(f"crates/callers/{file}"))
+        page, mutant = text("CONTRIBUTING.md"), r"`(\S+\.edit)`:\n\n```text\n(.*?)```"
+        ((file, shown),) = re.findall(mutant, page, re.DOTALL)
+        self.assertEqual(shown, text(file))
         # FONTVAL has each message of the program.
         messages = re.findall(r'codes "(fontval: .*?)"', text("crates/font_lines/specs/Serve.antt"))
         page = " ".join(text("docs/FONTVAL.md").split())
