@@ -6,7 +6,7 @@ use Rattle.font_c.proofs.delta.sum_in_range.Goals as goal
 
 pub loop-i-preserved : goal.loop-i-preserved
 loop-i-preserved c = sum_grows c.args.scalars.now c.args.deltas.now c.loop-i.i _ _ _ c.requires c.loop-i-test.true
-    (omega arith) c.loop-i.invariant (search rules) c.add.ensures.small
+    (omega arith) c.loop-i.invariant (search rules) c.add_product.ensures.small
 
 summed : (c : goal.After-checked_finish) → steps_of c.loop-i.sum ≡ sum_of_products c.args.scalars.now c.args.deltas.now
 summed c = c.loop-i.invariant.0 ∙ sum_of_all _ _ c.loop-i.i c.requires (omega (arith, c.loop-i-test.false))

@@ -21,7 +21,7 @@ loop-i-preserved c =
     c.split_at.ensures.front c.split_at-2.ensures.front (search rules) in
     let product : term ≡ (get_or xs i (pos 0) *ℤ delta_at 4 2 words set i) = search (rules, in_set) in
     let grown = sum_grows i (first_products 4 2 words set xs i) (get_or xs i (pos 0) *ℤ delta_at 4 2 words set i) _ _ _
-    (search rules) c.loop-i.invariant (search (rules, product)) c.add.ensures.small in
+    (search rules) c.loop-i.invariant (search (rules, product)) c.add_product.ensures.small in
     (grown.0 ∙ sym (next_product 4 2 words set xs i), grown.1)
 
 pub loop-i-2-preserved : goal.loop-i-2-preserved
@@ -36,6 +36,6 @@ loop-i-2-preserved c =
     (omega arith) c.split_at.ensures.back c.split_at-2.ensures.back (search rules) in
     let product : term ≡ (get_or xs n (pos 0) *ℤ delta_at 4 2 words set n) = search (rules, in_set) in
     let grown = sum_grows n (first_products 4 2 words set xs n) (get_or xs n (pos 0) *ℤ delta_at 4 2 words set n) _ _ _
-    (search rules) c.loop-i-2.invariant (search (rules, product)) c.add-in-loop-i-2.ensures.small in
+    (search rules) c.loop-i-2.invariant (search (rules, product)) c.add_product-in-loop-i-2.ensures.small in
     let next = grown.0 ∙ sym (next_product 4 2 words set xs n) in
     (search (rules, next), search (rules, grown.1))
