@@ -45,7 +45,11 @@ impl ByteRecords {
         ensures size { IfSome result (λ records. chunks_exact_size records ≡ self.size) }
         ensures remainder { IfSome result (λ records. chunks_exact_remainder records ≡ []) }
     {
-        let Self { offset, count, size } = self;
+        let Self {
+            offset,
+            count,
+            size,
+        } = self;
         if size == 0 {
             return None;
         }

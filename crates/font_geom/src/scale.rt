@@ -104,7 +104,10 @@ impl Scale {
             (f26dot6_bits pixels.x ≡ rounded_product point.x (scale_bits self))
             × (f26dot6_bits pixels.y ≡ rounded_product point.y (scale_bits self))) }
     {
-        match (self.checked_apply_i32(point.x), self.checked_apply_i32(point.y)) {
+        match (
+            self.checked_apply_i32(point.x),
+            self.checked_apply_i32(point.y),
+        ) {
             (Some(x), Some(y)) => Some(Point::new(x, y)),
             _ => None,
         }

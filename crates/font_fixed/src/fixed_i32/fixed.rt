@@ -17,8 +17,8 @@ ghost use Rattle.font_fixed.specs.{F2Dot14.f2dot14_bits, F26Dot6.f26dot6_bits, F
 use super::FixedI32;
 use crate::formats::Format;
 use crate::{
-    F2Dot14, F2Dot30, F26Dot6, F48Dot16, fitting_16, fitting_32, half_up_32, half_up_64, mul_div, narrow_32,
-    nearest_mul_div, nearest_product, product,
+    F2Dot14, F2Dot30, F26Dot6, F48Dot16, fitting_16, fitting_32, half_up_32, half_up_64, mul_div,
+    narrow_32, nearest_mul_div, nearest_product, product,
 };
 use font_base::{FixedSize, IdentityEq, Scalar};
 use std::ops::{Div, DivAssign, Mul, MulAssign};

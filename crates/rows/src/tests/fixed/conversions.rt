@@ -71,9 +71,7 @@ fn narrowed_26_6(rt: HostRuntime) {
 fn widened(rt: HostRuntime) {
     let half = F2Dot14::from_bits(-0x2000);
     assert!(rt; [half.to_fixed(), Fixed::from(half)] == [Fixed::from_bits(-0x8000); 2]);
-    assert!(rt;
-        [half.to_f2dot30(), F2Dot30::from(half)] == [F2Dot30::from_bits(-0x2000_0000); 2]
-    );
+    assert!(rt; [half.to_f2dot30(), F2Dot30::from(half)] == [F2Dot30::from_bits(-0x2000_0000); 2]);
     assert!(rt; Fixed::MIN.to_f48dot16() == F48Dot16::from_bits(-0x8000_0000));
     assert!(rt; Fixed::MIN.mul_i32(i32::MIN) == F48Dot16::from_bits(1 << 62));
     assert!(rt; Fixed::from_bits(-3).mul_i32(5) == F48Dot16::from_bits(-15));
