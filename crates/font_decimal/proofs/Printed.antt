@@ -11,7 +11,7 @@ use Rattle.std.proofs.{lemmas.Bool.Decides.nat_tests, lemmas.Int.ints, lemmas.St
 use Rattle.std.proofs.{lemmas.List.same_from_push, lemmas.Str.Parse.digit_from_value}
 use Rattle.std.specs.Str.Parse.{digits_value, AllDigits}
 use Rattle.std.specs.{Int.is_negative, Int.abs_diff, Fmt.sign_text, Char.digit_value}
-use Rattle.font_decimal.specs.{Near.signed, Near.Near, Grammar.fraction_text, Grammar.Decimal, Grammar.HasParts}
+use Rattle.font_decimal.specs.{Near.signed, Near.Near, Near.near_magnitude, Grammar.fraction_text, Grammar.Decimal, Grammar.HasParts}
 use Rattle.font_decimal.specs.{Shortest.IsShortest, Shortest.nearest_numeral, Shortest.fewest_places}
 use Rattle.font_decimal.specs.{Shortest.last_digits, Shortest.decimal_text, Shortest.shortest_text, Reading.Rounds}
 use Rattle.font_decimal.specs.{Reading.Parses, Padding.unsigned_body, declared.reader.DecimalFault.DecimalFault}
@@ -238,3 +238,18 @@ length-shortest_body-le b f digits places small some within steps =
       length-signed_body-le (is_negative b),
       length-append {A = ℕ},
     )
+
+-- without fraction bits, the text is the digits of the integer
+itself : (n : ℕ) → near_magnitude (n * 10 ^ 0) (2 ^ 0) ≡ n
+itself n = omega arith
+
+no_fraction : (n : ℕ) → decimal_text n 0 ≡ decimal n
+no_fraction n = append-nil (decimal (n / 10 ^ 0)) ∙ ap decimal (div-one n)
+
+no_sign : (n : ℕ) → sign_text (is_negative (pos n)) ≡ []
+no_sign n = grind (arith, nat_tests)
+
+pub integer_text : (n : ℕ) → shortest_text (pos n) 0 ≡ decimal n
+unfolding shortest_text fewest_places
+integer_text n = ap (λ sign. sign ++ decimal_text (near_magnitude (n * 10 ^ 0) (2 ^ 0)) 0) (no_sign n)
+    ∙ ap (λ m. decimal_text m 0) (itself n) ∙ no_fraction n

@@ -2,7 +2,7 @@
 
 ghost use Rattle.std.specs.Prelude.{◌≡◌, ◌<◌, ◌≤◌, ◌^◌, ◌↔◌, pos, min, nat_lt, true, Some, IsTrue};
 ghost use Rattle.std.specs.Prelude.{IsSome, IfSome, MatchResult, refl};
-ghost use Rattle.std.specs.Ordering.{nat_cmp};
+ghost use Rattle.std.specs.{Ordering.nat_cmp, Fmt.WritesStyledOnOk};
 ghost use Rattle.font_base.specs.Uint24.{UINT24_MAX, uint24_of_bytes, bytes_of_uint24};
 ghost use Rattle.font_base.specs.Uint24.Laws.{uint24_laws, uint24_identity};
 ghost use Rattle.font_base.specs.Bytes.{bytes_of, numeral};
@@ -12,6 +12,7 @@ ghost use Rattle.font_ids.specs.GlyphId.{glyph16_number, glyph16_of, glyph24_num
 ghost use Rattle.font_ids.specs.GlyphId.{glyph_number, refused_number, glyph_text};
 
 use font_base::{FixedSize, IdentityEq, Scalar, Uint24};
+use font_decimal::Shortest;
 use std::cmp::Ordering;
 use std::fmt;
 use thiserror::Error;
@@ -84,11 +85,21 @@ impl GlyphId16 {
     }
 }
 
+// Writes a glyph id, whatever options the formatter has.
+fn write_glyph<W: fmt::Write>(f: &mut fmt::Formatter<W>, number: u32) -> fmt::Result
+    ensures { WritesStyledOnOk W.write_str_gives f.old result (glyph_text number) f.new }
+{
+    f.write_str("GID_")?;
+    f.write_str(Shortest::new(i64::from(number), 0).as_str())
+}
+
 impl fmt::Display for GlyphId16 {
     ghost output = { λ id. Some (glyph_text (glyph16_number id)) };
 
+    ghost styled_output = { λ id _. Some (glyph_text (glyph16_number id)) };
+
     fn fmt<W: fmt::Write>(&self, f: &mut fmt::Formatter<W>) -> fmt::Result {
-        write!(f, "GID_{}", self.0)
+        write_glyph(f, self.to_u32())
     }
 }
 
@@ -233,8 +244,10 @@ impl GlyphId24 {
 impl fmt::Display for GlyphId24 {
     ghost output = { λ id. Some (glyph_text (glyph24_number id)) };
 
+    ghost styled_output = { λ id _. Some (glyph_text (glyph24_number id)) };
+
     fn fmt<W: fmt::Write>(&self, f: &mut fmt::Formatter<W>) -> fmt::Result {
-        write!(f, "GID_{}", self.to_u32())
+        write_glyph(f, self.to_u32())
     }
 }
 
@@ -356,8 +369,10 @@ impl GlyphId {
 impl fmt::Display for GlyphId {
     ghost output = { λ id. Some (glyph_text (glyph_number id)) };
 
+    ghost styled_output = { λ id _. Some (glyph_text (glyph_number id)) };
+
     fn fmt<W: fmt::Write>(&self, f: &mut fmt::Formatter<W>) -> fmt::Result {
-        write!(f, "GID_{}", self.0)
+        write_glyph(f, self.to_u32())
     }
 }
 

@@ -1,7 +1,9 @@
 //! Name ids of the `name` table.
 
-ghost use Rattle.std.specs.Prelude.{◌≡◌, ◌+◌, ◌≤◌, ◌^◌, ◌↔◌, pos, nat_lt, map, length, Some};
+ghost use Rattle.std.specs.Prelude.{◌≡◌, ◌+◌, ◌≤◌, ◌^◌, ◌++◌, ◌↔◌, pos, nat_lt, map, length, Some};
 ghost use Rattle.std.specs.Prelude.{IsTrue, IsSome, IfSome, refl};
+ghost use Rattle.std.specs.{Fmt.decimal, Fmt.WritesStyledOnOk};
+ghost use lib.Chars.{codes};
 ghost use Rattle.std.specs.Iterator.{YieldsFirst, UpTo, item_count};
 ghost use Rattle.std.specs.Iterator.SizeHint.{IsWithinCount};
 ghost use Rattle.font_base.specs.Bytes.{bytes_of, numeral};
@@ -10,6 +12,7 @@ ghost use Rattle.font_ids.specs.NameId.{name_number, name_id_of, name_text, pred
 ghost use Rattle.font_ids.specs.NameId.{predefined_left, last_reserved, last_allowed};
 
 use font_base::{FixedSize, IdentityEq, Scalar};
+use font_decimal::Shortest;
 use std::fmt;
 
 /// The id of a string in the `name` table, such as the family name.
@@ -185,8 +188,10 @@ impl From<NameId> for u16 {
 }
 
 /// Writes the name of the constant, or [`NameId`] and the number.
-impl fmt::Debug for NameId {
-    ghost debug_output = { λ id. Some (name_text (name_number id)) };
+impl fmt::Display for NameId {
+    ghost output = { λ id. Some (name_text (name_number id)) };
+
+    ghost styled_output = { λ id _. Some (name_text (name_number id)) };
 
     fn fmt<W: fmt::Write>(&self, f: &mut fmt::Formatter<W>) -> fmt::Result {
         let name = match *self {
@@ -215,19 +220,27 @@ impl fmt::Debug for NameId {
             Self::LIGHT_BACKGROUND_PALETTE => "LIGHT_BACKGROUND_PALETTE",
             Self::DARK_BACKGROUND_PALETTE => "DARK_BACKGROUND_PALETTE",
             Self::VARIATIONS_POSTSCRIPT_NAME_PREFIX => "VARIATIONS_POSTSCRIPT_NAME_PREFIX",
-            _ => return write!(f, "NameId {}", self.0),
+            _ => return write_number(f, self.0),
         };
         f.write_str(name)
     }
 }
 
 /// Writes the name of the constant, or [`NameId`] and the number.
-impl fmt::Display for NameId {
-    ghost output = { λ id. Some (name_text (name_number id)) };
+impl fmt::Debug for NameId {
+    ghost debug_output = { λ id. Some (name_text (name_number id)) };
 
     fn fmt<W: fmt::Write>(&self, f: &mut fmt::Formatter<W>) -> fmt::Result {
-        fmt::Debug::fmt(self, f)
+        fmt::Display::fmt(self, f)
     }
+}
+
+// Writes the text of an id that has no constant.
+fn write_number<W: fmt::Write>(f: &mut fmt::Formatter<W>, number: u16) -> fmt::Result
+    ensures { WritesStyledOnOk W.write_str_gives f.old result (codes "NameId " ++ decimal number) f.new }
+{
+    f.write_str("NameId ")?;
+    f.write_str(Shortest::new(i64::from(number), 0).as_str())
 }
 
 impl FixedSize for NameId {

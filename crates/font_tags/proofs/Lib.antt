@@ -3,3 +3,4 @@ pub mod TagLaws
 pub mod TagText
 pub mod VersionLaws
 pub mod VersionText
+pub mod Written

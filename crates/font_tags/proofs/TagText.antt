@@ -1,11 +1,11 @@
 -- The printed text of tags.
-use Rattle.std.proofs.Common.{◌≡◌, ℕ, ◌/◌, ◌%◌, ◌<◌, ◌⊎◌, true, arith, List, [], ◌∷◌, ◌++◌, ap, ◌∙◌, ◌+◌, length, take}
+use Rattle.std.proofs.Common.{◌≡◌, ℕ, ◌/◌, ◌%◌, ◌<◌, ◌⊎◌, true, arith, List, [], ◌∷◌, ◌+◌, length, take}
 use Rattle.std.proofs.Common.{get_or, append-nil}
 use Rattle.std.proofs.lemmas.List.{take_more}
-use Rattle.std.proofs.{lemmas.Bool.Decides.nat_tests, lemmas.List.Folds.concat-append, lemmas.Grind.flat_map-append}
+use Rattle.std.proofs.{lemmas.Bool.Decides.nat_tests, lemmas.Grind.flat_map-append}
 use Rattle.std.specs.Fmt.{digit_glyph, HasWrittenStyled}
-use Rattle.std.specs.List.{FoldsTo, concat}
 use Rattle.font_tags.specs.Tag.{byte_text, tag_text}
+use Rattle.font_tags.proofs.Written.{then_written}
 
 -- a byte outside 0x20 to 0x7E
 abbrev pub IsHidden : ℕ → Type 0
@@ -14,24 +14,6 @@ IsHidden byte = (byte < 0x20) ⊎ (0x7E < byte)
 pub byte_text-hidden : (byte : ℕ) → IsHidden byte → byte_text byte ≡ 123 ∷ 48 ∷ 120 ∷ digit_glyph true (byte / 16)
     ∷ digit_glyph true (byte % 16) ∷ 125 ∷ []
 byte_text-hidden byte hidden = grind (arith, nat_tests)
-
--- ---- written under any options, one text after another
-folds_both : {P A : Type 0} (R : P → A → P → Type 0) (p q r : P) (xs ys : List A) → FoldsTo R p xs q → FoldsTo R q ys r
-    → FoldsTo R p (xs ++ ys) r
-folds_both R p q r [] ys first second = grind (arith, first, second)
-folds_both R p q r (x ∷ xs) ys first second = (first.0, first.1, folds_both R first.0 q r xs ys first.2 second)
-
-pub then_written : {W : Type 0} (took : W → List ℕ → W → Type 0) (f g h : _) (a b : List ℕ)
-    → HasWrittenStyled {W = W} took f a g → HasWrittenStyled took g b h → HasWrittenStyled took f (a ++ b) h
-then_written took f g h a b first second = record {
-  wrote = record {
-    parts = first.wrote.parts ++ second.wrote.parts;
-    calls = folds_both took _ _ _ first.wrote.parts second.wrote.parts first.wrote.calls second.wrote.calls;
-    whole = concat-append first.wrote.parts second.wrote.parts ∙ ap (λ z. z ++ concat second.wrote.parts) first.wrote.whole ∙ ap (λ z. a ++ z) second.wrote.whole;
-  };
-  spec = second.spec ∙ first.spec;
-  flush = second.flush;
-}
 
 -- the parts of a hidden byte
 pub hidden_written : {W : Type 0} (took : W → List ℕ → W → Type 0) (f g h i k : _) (byte : ℕ) → IsHidden byte

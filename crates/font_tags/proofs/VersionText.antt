@@ -1,5 +1,5 @@
 -- The printed bits of a version.
-use Rattle.std.proofs.Common.{◌≡◌, ℕ, ◌-◌, false, Some, List, [], ◌++◌, arith, append-nil}
+use Rattle.std.proofs.Common.{◌≡◌, ℕ, false, Some, List, [], ◌++◌, arith, append-nil}
 use Rattle.std.specs.Fmt.{digits, digits_output, styled_digits_output, format_spec, padded_integral, char_count}
 use Rattle.std.specs.Fmt.{WritesOnOk, DisplaysOnOk, ◌++?◌}
 use Rattle.font_tags.specs.Version.{hex_text}

@@ -3,6 +3,7 @@
 ghost use Rattle.std.specs.Prelude.{◌≡◌, ◌≤◌, ◌^◌, ◌++◌, ◌&&◌, ◌↔◌, pos, nat_lt, min, Some, IsTrue};
 ghost use Rattle.std.specs.Prelude.{◌++◌, refl};
 ghost use lib.Chars.{codes};
+ghost use Rattle.std.specs.Fmt.{WritesStyledOnOk};
 ghost use Rattle.font_base.specs.Bytes.{bytes_of, numeral};
 ghost use Rattle.font_base.specs.Scalar.Laws.{unsigned_newtype, unsigned_identity};
 ghost use Rattle.font_tags.specs.Version.{version_bits, version_of, version_major, version_minor};
@@ -10,6 +11,7 @@ ghost use Rattle.font_tags.specs.Version.{packed_version, version_text, hex_text
 ghost use Rattle.font_tags.specs.Version.{major_minor_bytes, major_minor_of, IsCompatible};
 
 use font_base::{FixedSize, IdentityEq, Scalar};
+use font_decimal::Shortest;
 use std::fmt;
 
 /// A packed 32-bit version, as in `maxp`, `post` and `vhea`: the major number in the high 16 bits
@@ -78,10 +80,22 @@ impl fmt::Display for Version16Dot16 {
     ghost output = { λ version.
         Some (version_text (version_major version) (version_minor version)) };
 
+    ghost styled_output = { λ version _.
+        Some (version_text (version_major version) (version_minor version)) };
+
     fn fmt<W: fmt::Write>(&self, f: &mut fmt::Formatter<W>) -> fmt::Result {
         let (major, minor) = self.to_major_minor();
-        write!(f, "{major}.{minor}")
+        write_version(f, major, minor)
     }
+}
+
+// Writes a version, whatever options the formatter has.
+fn write_version<W: fmt::Write>(f: &mut fmt::Formatter<W>, major: u16, minor: u16) -> fmt::Result
+    ensures { WritesStyledOnOk W.write_str_gives f.old result (version_text major minor) f.new }
+{
+    f.write_str(Shortest::new(i64::from(major), 0).as_str())?;
+    f.write_str(".")?;
+    f.write_str(Shortest::new(i64::from(minor), 0).as_str())
 }
 
 impl fmt::Debug for Version16Dot16 {
@@ -176,9 +190,10 @@ impl MajorMinor {
 impl fmt::Display for MajorMinor {
     ghost output = { λ version. Some (version_text version.major version.minor) };
 
+    ghost styled_output = { λ version _. Some (version_text version.major version.minor) };
+
     fn fmt<W: fmt::Write>(&self, f: &mut fmt::Formatter<W>) -> fmt::Result {
-        let MajorMinor { major, minor } = self;
-        write!(f, "{major}.{minor}")
+        write_version(f, self.major, self.minor)
     }
 }
 

@@ -14,6 +14,7 @@ use crate::definitions::font_ids::GlyphId_antt::{
 };
 
 use crate::font_base::{FixedSize, IdentityEq, Scalar, Uint24};
+use crate::font_decimal::Shortest;
 use core::cmp::Ordering;
 use core::fmt;
 
@@ -142,16 +143,24 @@ impl GlyphId16 {
     }
 }
 
+// Writes a glyph id, whatever options the formatter has.
+#[inline]
+fn write_glyph(f: &mut fmt::Formatter<'_>, number: u32) -> fmt::Result {
+    f.write_str("GID_")?;
+    f.write_str(Shortest::new(i64::from(number), 0).as_str())
+}
+
 /// <details><summary>Contract</summary>
 ///
 /// ```text
 /// ghost output = { λ id. Some (glyph_text (glyph16_number id)) };
+/// ghost styled_output = { λ id _. Some (glyph_text (glyph16_number id)) };
 /// ```
 /// [Notation](crate::definitions): [`glyph_text`], [`glyph16_number`]
 /// </details>
 impl fmt::Display for GlyphId16 {
     fn fmt(&self, f: &mut fmt::Formatter<'_>) -> fmt::Result {
-        write!(f, "GID_{}", self.0)
+        write_glyph(f, self.to_u32())
     }
 }
 
@@ -377,12 +386,13 @@ impl GlyphId24 {
 ///
 /// ```text
 /// ghost output = { λ id. Some (glyph_text (glyph24_number id)) };
+/// ghost styled_output = { λ id _. Some (glyph_text (glyph24_number id)) };
 /// ```
 /// [Notation](crate::definitions): [`glyph_text`], [`glyph24_number`]
 /// </details>
 impl fmt::Display for GlyphId24 {
     fn fmt(&self, f: &mut fmt::Formatter<'_>) -> fmt::Result {
-        write!(f, "GID_{}", self.to_u32())
+        write_glyph(f, self.to_u32())
     }
 }
 
@@ -565,12 +575,13 @@ impl GlyphId {
 ///
 /// ```text
 /// ghost output = { λ id. Some (glyph_text (glyph_number id)) };
+/// ghost styled_output = { λ id _. Some (glyph_text (glyph_number id)) };
 /// ```
 /// [Notation](crate::definitions): [`glyph_text`], [`glyph_number`]
 /// </details>
 impl fmt::Display for GlyphId {
     fn fmt(&self, f: &mut fmt::Formatter<'_>) -> fmt::Result {
-        write!(f, "GID_{}", self.0)
+        write_glyph(f, self.to_u32())
     }
 }
 

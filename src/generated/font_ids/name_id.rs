@@ -11,6 +11,7 @@ use crate::definitions::font_ids::NameId_antt::{
 };
 
 use crate::font_base::{FixedSize, IdentityEq, Scalar};
+use crate::font_decimal::Shortest;
 use core::fmt;
 
 /// The id of a string in the `name` table, such as the family name.
@@ -253,11 +254,12 @@ impl From<NameId> for u16 {
 /// <details><summary>Contract</summary>
 ///
 /// ```text
-/// ghost debug_output = { λ id. Some (name_text (name_number id)) };
+/// ghost output = { λ id. Some (name_text (name_number id)) };
+/// ghost styled_output = { λ id _. Some (name_text (name_number id)) };
 /// ```
 /// [Notation](crate::definitions): [`name_text`], [`name_number`]
 /// </details>
-impl fmt::Debug for NameId {
+impl fmt::Display for NameId {
     fn fmt(&self, f: &mut fmt::Formatter<'_>) -> fmt::Result {
         let name = match *self {
             Self::COPYRIGHT_NOTICE => "COPYRIGHT_NOTICE",
@@ -285,7 +287,7 @@ impl fmt::Debug for NameId {
             Self::LIGHT_BACKGROUND_PALETTE => "LIGHT_BACKGROUND_PALETTE",
             Self::DARK_BACKGROUND_PALETTE => "DARK_BACKGROUND_PALETTE",
             Self::VARIATIONS_POSTSCRIPT_NAME_PREFIX => "VARIATIONS_POSTSCRIPT_NAME_PREFIX",
-            _ => return write!(f, "NameId {}", self.0),
+            _ => return write_number(f, self.0),
         };
         f.write_str(name)
     }
@@ -296,14 +298,21 @@ impl fmt::Debug for NameId {
 /// <details><summary>Contract</summary>
 ///
 /// ```text
-/// ghost output = { λ id. Some (name_text (name_number id)) };
+/// ghost debug_output = { λ id. Some (name_text (name_number id)) };
 /// ```
 /// [Notation](crate::definitions): [`name_text`], [`name_number`]
 /// </details>
-impl fmt::Display for NameId {
+impl fmt::Debug for NameId {
     fn fmt(&self, f: &mut fmt::Formatter<'_>) -> fmt::Result {
-        fmt::Debug::fmt(self, f)
+        fmt::Display::fmt(self, f)
     }
+}
+
+// Writes the text of an id that has no constant.
+#[inline]
+fn write_number(f: &mut fmt::Formatter<'_>, number: u16) -> fmt::Result {
+    f.write_str("NameId ")?;
+    f.write_str(Shortest::new(i64::from(number), 0).as_str())
 }
 
 impl FixedSize for NameId {

@@ -11,6 +11,7 @@ use crate::definitions::font_tags::Version_antt::{
 };
 
 use crate::font_base::{FixedSize, IdentityEq, Scalar};
+use crate::font_decimal::Shortest;
 use core::fmt;
 
 /// A packed 32-bit version, as in `maxp`, `post` and `vhea`: the major number in the high 16 bits
@@ -102,14 +103,24 @@ impl Version16Dot16 {
 /// ```text
 /// ghost output = { λ version.
 ///     Some (version_text (version_major version) (version_minor version)) };
+/// ghost styled_output = { λ version _.
+///     Some (version_text (version_major version) (version_minor version)) };
 /// ```
 /// [Notation](crate::definitions): [`version_text`], [`version_major`], [`version_minor`]
 /// </details>
 impl fmt::Display for Version16Dot16 {
     fn fmt(&self, f: &mut fmt::Formatter<'_>) -> fmt::Result {
         let (major, minor) = self.to_major_minor();
-        write!(f, "{major}.{minor}")
+        write_version(f, major, minor)
     }
+}
+
+// Writes a version, whatever options the formatter has.
+#[inline]
+fn write_version(f: &mut fmt::Formatter<'_>, major: u16, minor: u16) -> fmt::Result {
+    f.write_str(Shortest::new(i64::from(major), 0).as_str())?;
+    f.write_str(".")?;
+    f.write_str(Shortest::new(i64::from(minor), 0).as_str())
 }
 
 /// <details><summary>Contract</summary>
@@ -226,13 +237,13 @@ impl MajorMinor {
 ///
 /// ```text
 /// ghost output = { λ version. Some (version_text version.major version.minor) };
+/// ghost styled_output = { λ version _. Some (version_text version.major version.minor) };
 /// ```
 /// [Notation](crate::definitions): [`version_text`]
 /// </details>
 impl fmt::Display for MajorMinor {
     fn fmt(&self, f: &mut fmt::Formatter<'_>) -> fmt::Result {
-        let MajorMinor { major, minor } = self;
-        write!(f, "{major}.{minor}")
+        write_version(f, self.major, self.minor)
     }
 }
 
