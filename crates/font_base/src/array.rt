@@ -340,6 +340,12 @@ impl<'a, T: Scalar> ScalarArray<'a, T> {
     /// # Panics
     ///
     /// Panics if the closure does.
+    ///
+    /// ```
+    /// use font_types::ScalarArray;
+    /// let ends = ScalarArray::<u16>::new(&[0, 9, 0, 5, 0, 1]).unwrap();
+    /// assert_eq!(ends.binary_search_by_key(&-5, |end| -i32::from(end)), Ok(1));
+    /// ```
     pub fn binary_search_by_key<K: Ord + Drop, F: Fn(T) -> K>(
         &self,
         key: &K,

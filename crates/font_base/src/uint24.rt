@@ -134,6 +134,11 @@ impl From<Uint24> for usize {
 }
 
 /// The error of a conversion from a `usize` that exceeds [`Uint24::MAX`].
+///
+/// ```
+/// use font_types::{TryFromUint24Error, Uint24};
+/// assert_eq!(Uint24::try_from(16_777_216_usize), Err(TryFromUint24Error));
+/// ```
 #[derive(Debug, Drop, Error)]
 #[error("failed to convert usize value into Uint24.")]
 pub struct TryFromUint24Error;

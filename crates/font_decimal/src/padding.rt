@@ -5,6 +5,15 @@ ghost use Rattle.font_decimal.specs.Padding.{shown_sign, unsigned_body, laid_out
 ghost use Rattle.font_decimal.specs.Padding.{FillsFront};
 
 /// The alignment of text that is shorter than the width.
+///
+/// ```
+/// use font_types::{Align, Fixed, Pad};
+/// let mut pad = Pad::new(6);
+/// pad.align = Align::Center;
+/// let mut out = [0; 6];
+/// Fixed::ONE.write_padded(&mut out, &pad);
+/// assert_eq!(&out, b"  1   ");
+/// ```
 #[derive(Clone, Copy)]
 pub enum Align {
     /// Left-aligned, with the fill on the right.

@@ -50,6 +50,12 @@ impl FWord {
     }
 
     /// Adds a sum of deltas, exactly. The result is a 16.16 raw value.
+    ///
+    /// ```
+    /// use font_types::{F48Dot16, FWord};
+    /// let moved = FWord::new(500).apply_delta(F48Dot16::from_i64(20));
+    /// assert_eq!(moved, 520 << 16);
+    /// ```
     pub fn apply_delta(self, delta: F48Dot16) -> i128
         ensures { result ≡ (fword_number self *ℤ pos 65536 +ℤ f48dot16_bits delta) }
     {
@@ -201,6 +207,12 @@ impl UfWord {
     }
 
     /// Adds a sum of deltas, exactly. The result is a 16.16 raw value.
+    ///
+    /// ```
+    /// use font_types::{F48Dot16, UfWord};
+    /// let moved = UfWord::new(500).apply_delta(F48Dot16::from_i64(20));
+    /// assert_eq!(moved, 520 << 16);
+    /// ```
     pub fn apply_delta(self, delta: F48Dot16) -> i128
         ensures { result ≡ (pos (ufword_number self) *ℤ pos 65536 +ℤ f48dot16_bits delta) }
     {

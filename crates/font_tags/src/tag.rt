@@ -122,6 +122,13 @@ impl Tag {
     /// Returns `InvalidLength(0)` for four spaces. Otherwise the error is of the first byte that
     /// cannot be there: `ByteAfterSpace` for a printable byte after a space, and `InvalidByte` for
     /// a space at the start or a byte that is not printable ASCII.
+    ///
+    /// ```
+    /// use font_types::{InvalidTag, Tag};
+    /// assert_eq!(Tag::new(b"cvt ").validate(), Ok(()));
+    /// let fault = InvalidTag::ByteAfterSpace { pos: 2 };
+    /// assert_eq!(Tag::new(b"b cc").validate(), Err(fault));
+    /// ```
     #[tactic(auto, using(crate::proofs::Good::tag_judgements))]
     pub fn validate(self) -> Result<(), InvalidTag>
         ensures judged { IsValidated (tag_bytes self) result }

@@ -411,6 +411,12 @@ impl<'a, T: Scalar> ScalarArray<'a, T> {
     ///
     /// Panics if the closure does.
     ///
+    /// ```
+    /// use font_types_proved::ScalarArray;
+    /// let ends = ScalarArray::<u16>::new(&[0, 9, 0, 5, 0, 1]).unwrap();
+    /// assert_eq!(ends.binary_search_by_key(&-5, |end| -i32::from(end)), Ok(1));
+    /// ```
+    ///
     /// <details><summary>Contract</summary>
     ///
     /// ```text

@@ -192,6 +192,11 @@ impl From<Uint24> for usize {
 
 /// The error of a conversion from a `usize` that exceeds [`Uint24::MAX`].
 ///
+/// ```
+/// use font_types_proved::{TryFromUint24Error, Uint24};
+/// assert_eq!(Uint24::try_from(16_777_216_usize), Err(TryFromUint24Error));
+/// ```
+///
 /// The source and its contracts: `crates/font_base/src/uint24.rt`.
 #[derive(Debug, Clone, Copy, PartialEq, Eq)]
 pub struct TryFromUint24Error;

@@ -6,6 +6,15 @@ use crate::definitions::font_decimal::Padding_antt::{FillsFront, padded_text};
 
 /// The alignment of text that is shorter than the width.
 ///
+/// ```
+/// use font_types_proved::{Align, Fixed, Pad};
+/// let mut pad = Pad::new(6);
+/// pad.align = Align::Center;
+/// let mut out = [0; 6];
+/// Fixed::ONE.write_padded(&mut out, &pad);
+/// assert_eq!(&out, b"  1   ");
+/// ```
+///
 /// The source and its contracts: `crates/font_decimal/src/padding.rt`.
 #[derive(Clone, Copy, Debug, PartialEq, Eq, Hash)]
 pub enum Align {

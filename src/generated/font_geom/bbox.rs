@@ -82,6 +82,13 @@ impl<T: PartialOrd + Copy> BoundingBox<T> {
     ///
     /// A pair that does not compare is swapped too, and then the box is not normalized.
     ///
+    /// ```
+    /// use font_types_proved::BoundingBox;
+    /// let (x_min, y_min, x_max, y_max) = (5, 5, 10, 10);
+    /// let mirrored = BoundingBox { x_min, y_min, x_max, y_max }.scale(-2).normalize();
+    /// assert_eq!((mirrored.x_min, mirrored.x_max), (-20, -10));
+    /// ```
+    ///
     /// <details><summary>Contract</summary>
     ///
     /// ```text

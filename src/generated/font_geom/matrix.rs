@@ -116,6 +116,13 @@ impl MatrixElement for Fixed {
 impl<T: Copy> Matrix<T> {
     /// Creates a matrix from its elements in the order `[xx, yx, xy, yy, dx, dy]`.
     ///
+    /// ```
+    /// use font_types_proved::{Fixed, Matrix, Point};
+    /// let double_and_move = Matrix::from_elements([2, 0, 0, 2, 10, 20].map(Fixed::from_i32));
+    /// let moved = double_and_move * Point::new(Fixed::ONE, Fixed::ONE);
+    /// assert_eq!(moved, Point::new(12, 22).map(Fixed::from_i32));
+    /// ```
+    ///
     /// <details><summary>Contract</summary>
     ///
     /// ```text

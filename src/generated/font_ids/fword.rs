@@ -78,6 +78,12 @@ impl FWord {
 
     /// Adds a sum of deltas, exactly. The result is a 16.16 raw value.
     ///
+    /// ```
+    /// use font_types_proved::{F48Dot16, FWord};
+    /// let moved = FWord::new(500).apply_delta(F48Dot16::from_i64(20));
+    /// assert_eq!(moved, 520 << 16);
+    /// ```
+    ///
     /// <details><summary>Contract</summary>
     ///
     /// ```text
@@ -313,6 +319,12 @@ impl UfWord {
     }
 
     /// Adds a sum of deltas, exactly. The result is a 16.16 raw value.
+    ///
+    /// ```
+    /// use font_types_proved::{F48Dot16, UfWord};
+    /// let moved = UfWord::new(500).apply_delta(F48Dot16::from_i64(20));
+    /// assert_eq!(moved, 520 << 16);
+    /// ```
     ///
     /// <details><summary>Contract</summary>
     ///

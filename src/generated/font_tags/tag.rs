@@ -181,6 +181,13 @@ impl Tag {
     /// cannot be there: `ByteAfterSpace` for a printable byte after a space, and `InvalidByte` for
     /// a space at the start or a byte that is not printable ASCII.
     ///
+    /// ```
+    /// use font_types_proved::{InvalidTag, Tag};
+    /// assert_eq!(Tag::new(b"cvt ").validate(), Ok(()));
+    /// let fault = InvalidTag::ByteAfterSpace { pos: 2 };
+    /// assert_eq!(Tag::new(b"b cc").validate(), Err(fault));
+    /// ```
+    ///
     /// <details><summary>Contract</summary>
     ///
     /// ```text

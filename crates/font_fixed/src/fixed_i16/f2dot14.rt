@@ -70,6 +70,12 @@ impl F2Dot14 {
     /// Adds a sum of deltas, exactly. The result is in units of `2^-30`.
     ///
     /// A delta of 1 is one unit of the raw value, `1 / 16384`.
+    ///
+    /// ```
+    /// use font_types::{F2Dot14, F48Dot16};
+    /// let moved = F2Dot14::ONE.apply_delta(F48Dot16::from_i64(3));
+    /// assert_eq!(moved, (16384 + 3) << 16);
+    /// ```
     pub fn apply_delta(self, delta: F48Dot16) -> i128
         ensures { result ≡ (bits_of self *ℤ pos 65536 +ℤ f48dot16_bits delta) }
     {

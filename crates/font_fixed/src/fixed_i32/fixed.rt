@@ -67,6 +67,12 @@ impl Fixed {
     ///
     /// If `c` is zero, the result is [`Fixed::MAX`], negated if exactly one of `self` and `a` is
     /// negative.
+    ///
+    /// ```
+    /// use font_types::Fixed;
+    /// let [hundred, three] = [100, 3].map(Fixed::from_i32);
+    /// assert_eq!(hundred.mul_div(Fixed::ONE, three), Fixed::from_bits(2_184_533));
+    /// ```
     // #[doc(alias = "FT_MulDiv")]
     #[inline(always)]
     pub const fn mul_div(&self, a: Self, c: Self) -> Self
@@ -231,6 +237,12 @@ impl Fixed {
     /// Adds a sum of deltas, exactly. The result is in units of `2^-32`.
     ///
     /// A delta of 1 is one unit of the raw value, `1 / 65536`.
+    ///
+    /// ```
+    /// use font_types::{F48Dot16, Fixed};
+    /// let moved = Fixed::ONE.apply_delta(F48Dot16::from_i64(3));
+    /// assert_eq!(moved, (65536 + 3) << 16);
+    /// ```
     pub fn apply_delta(self, delta: F48Dot16) -> i128
         ensures { result ≡ (bits_of self *ℤ pos 65536 +ℤ f48dot16_bits delta) }
     {

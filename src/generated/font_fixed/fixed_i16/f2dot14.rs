@@ -85,6 +85,12 @@ impl F2Dot14 {
     ///
     /// A delta of 1 is one unit of the raw value, `1 / 16384`.
     ///
+    /// ```
+    /// use font_types_proved::{F2Dot14, F48Dot16};
+    /// let moved = F2Dot14::ONE.apply_delta(F48Dot16::from_i64(3));
+    /// assert_eq!(moved, (16384 + 3) << 16);
+    /// ```
+    ///
     /// <details><summary>Contract</summary>
     ///
     /// ```text

@@ -69,6 +69,12 @@ impl Fixed {
     /// If `c` is zero, the result is [`Fixed::MAX`], negated if exactly one of `self` and `a` is
     /// negative.
     ///
+    /// ```
+    /// use font_types_proved::Fixed;
+    /// let [hundred, three] = [100, 3].map(Fixed::from_i32);
+    /// assert_eq!(hundred.mul_div(Fixed::ONE, three), Fixed::from_bits(2_184_533));
+    /// ```
+    ///
     /// <details><summary>Contract</summary>
     ///
     /// ```text
@@ -353,6 +359,12 @@ impl Fixed {
     /// Adds a sum of deltas, exactly. The result is in units of `2^-32`.
     ///
     /// A delta of 1 is one unit of the raw value, `1 / 65536`.
+    ///
+    /// ```
+    /// use font_types_proved::{F48Dot16, Fixed};
+    /// let moved = Fixed::ONE.apply_delta(F48Dot16::from_i64(3));
+    /// assert_eq!(moved, (65536 + 3) << 16);
+    /// ```
     ///
     /// <details><summary>Contract</summary>
     ///
