@@ -78,6 +78,22 @@ def words(text: str) -> set[str]:
     return set(re.findall(r"[A-Za-z0-9_]+", text))
 
 
+# What a file takes from the definitions of Rattle's kit.
+OF_KIT = r"\buse Rattle\.(?:std|hex|serde_json)\.specs\b[\w.]*(?:\.\{([^}]*)\}|(?: as |\.)(\w+);)"
+
+
+def clauses(code: str) -> str:
+    """What the clauses of a Rattle source state, and what its calls give."""
+    found = []
+    for it in re.finditer(r"\b(?:requires|ensures|ghost \w+_gives)\b[^{}\n]*\{", code):
+        depth, end = 1, it.end()
+        while depth:
+            depth += {"{": 1, "}": -1}.get(code[end], 0)
+            end += 1
+        found.append(code[it.end() : end - 1])
+    return " ".join(found)
+
+
 def squeezed(text: str) -> str:
     return "".join(text.split())
 
@@ -207,31 +223,34 @@ class Pages(unittest.TestCase):
             self.assertEqual(pages & items, set(), package)
 
     def test_signs_and_words_of_contracts(self) -> None:
-        """The legend has each sign, each member of a callback, each case of an `Option` or a
-        `Result`, and each word of Rattle's std, that contracts and definitions use."""
-        page = "".join(text("src/contracts.md").split("```")[::2]).replace("\\|", "|")
-        legend = " ".join(re.findall("`([^`]+)`", page))
-        sources = [it for it in of("crates/", ".rt", ".antt") if "/src/" in it or "/specs/" in it]
-        of_std = r"\buse Rattle\.std\.specs\b[\w.]*(?:\.\{([^}]*)\}|(?: as |\.)(\w+);)"
-        found = re.findall(of_std, "".join(text(path) for path in sources))
-        names = {it.split(".")[-1].strip() for of in found for it in ",".join(of).split(",")}
+        """The legend has a row for each sign, each member of a callback, each case of an `Option`
+        or a `Result`, and each word of Rattle's kit, that contracts and definitions use. A word in
+        the text, or in the explanation of another, is not explained."""
+        cells = re.findall(r"^\| (.*?) \|", text("src/contracts.md").replace("\\|", "\0"), re.M)
+        legend = " ".join(re.findall("`([^`]+)`", " ".join(cells))).replace("\0", "|")
         cases = r"\b(?:Is|If|Match)(?:Some|None|Ok|Err|Option|Result)\b"
+        names = set()
+        # Names that Rust has too, and files of definitions that prove laws, need no row.
+        of_rust = set("Ok Err Some None true false Less Equal Greater".split())
+        sources = [it for it in of("crates/", ".rt", ".antt") if "/src/" in it or "/specs/" in it]
+        for path in (it for it in sources if "/tests/" not in it):
+            source = text(path)
+            if "use Rattle.std.proofs" not in source:
+                found = re.findall(OF_KIT, source)
+                here = {it.split(".")[-1].strip() for of in found for it in ",".join(of).split(",")}
+                code = clauses(source) if path.endswith(".rt") else re.sub(OF_KIT, "", source)
+                used = here & words(re.sub("--.*|//.*", "", code))
+                self.assertFalse(used - words(legend) - of_rust, path)
+                names |= here
         for package in GENERATED:
             shown = "".join(text(path) for path in of(package, ".rs"))
-            clauses = "".join(re.findall(r"/// ```text\n(.*?)/// ```", shown, re.DOTALL))
-            code = re.sub(r"///|//.*|-- .*", "", clauses)
+            blocks = "".join(re.findall(r"/// ```text\n(.*?)/// ```", shown, re.DOTALL))
+            code = re.sub(r"///|//.*|-- .*", "", blocks)
             signs = re.findall(rf"[+*<-]?[^\x00-\x7f]+|&&|\|\||==|\+\+|\^|\bF\.\w+|{cases}", code)
             self.assertFalse({sign for sign in signs if sign not in legend}, package)
             # A package has pages of its own definitions.
             pages = set(re.findall(r"pub mod (\w+)", shown))
-            self.assertFalse(names & words(code) - words(legend) - pages, package)
-        # No package shows these.
-        others = re.compile(r"crates/font_(?:lines/specs/\w+|c/specs/\w+|types/specs/Json)\.antt")
-        of_kit = r"\buse Rattle\.(?:std|hex|serde_json)\.specs[\w.]*\.\{(.*)\}"
-        for path in filter(others.fullmatch, FILES):
-            found = ",".join(re.findall(of_kit, text(path))).split(",")
-            names = {it.split(".")[-1].strip() for it in found}
-            self.assertFalse(words(" ".join(names)) - words(legend), path)
+            self.assertFalse(names & words(code) - words(legend) - pages - of_rust, package)
 
     def test_pages_of_definitions(self) -> None:
         """Each definition that contracts and definitions of a package name has a page, or is on
