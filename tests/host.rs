@@ -147,6 +147,25 @@ fn reads_that_cut_lines() {
     }
 }
 
+// Also at each place of a block of 16,384 bytes, with lines of 0, 1 and 16,384 bytes.
+#[test]
+fn reads_that_cut_blocks() {
+    let block = format!("uint8{:>16379}", "7f");
+    for (end, answers) in
+        [("", "error 1\nerror 1\n127\n"), ("\n\n", "error 1\nerror 1\n127\nerror 1\n")]
+    {
+        let lines = ["\na\n", &block, end].concat();
+        for cut in 0..=16384 {
+            let (front, back) = lines.as_bytes().split_at(cut);
+            let mut taken = [0; 40];
+            let mut sink = FromWrite::new(&mut taken[..]);
+            assert!(serve(Global, &mut FromRead::new(Parts(front, back)), &mut sink).is_ok());
+            assert!(taken.starts_with(answers.as_bytes()), "cut at byte {cut}, {end:?} at the end");
+            assert_eq!(taken[answers.len()], 0, "cut at byte {cut}, {end:?} at the end");
+        }
+    }
+}
+
 // Each allocation of a run over the stored lines fails in turn, until none is left that could.
 #[test]
 fn serve_allocation_errors() {

@@ -63,11 +63,15 @@ fn stored_lines_in_parts() {
     }
 }
 
-// A line of more than 64 KB, and the byte 0x04 at the end.
+// Lines of 80 KB and of 4 MB, with a line end and without one, and the byte 0x04 at the end.
 #[test]
 fn long_lines() {
     let line = format!("sum{}\nint8 04\nuint8 64\n\x04", " 1 1".repeat(20_000));
     assert_eq!(answers("long-line", line.as_bytes()), b"20000\n4\n100\nerror 1\n");
+    for end in ["", "\n"] {
+        let line = format!("\nsum{}{end}", " 1 1".repeat(1_000_000));
+        assert_eq!(answers("longer-line", line.as_bytes()), b"error 1\n1000000\n", "{end:?}");
+    }
 }
 
 // An argument is refused before a line is read, also one of no bytes.
