@@ -50,7 +50,7 @@ fn answers_of_the_reference() {
     let (lines, right): (Vec<&str>, Vec<&str>) = rows.unzip();
     let found = String::from_utf8(answers("reference", lines.join("\n").as_bytes())).unwrap();
     assert_eq!(found.lines().collect::<Vec<_>>(), right, "{lines:?}");
-    assert_eq!(right.len(), 6);
+    assert_eq!(right.len(), 7);
 }
 
 // The answers to an input that is cut after a line feed are those to its parts.
