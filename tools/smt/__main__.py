@@ -6,7 +6,7 @@
 fails. Without it, the build has neither, like a release build. `--exhaustive` adds the rows of each
 number of fraction bits. `--mutants` tries wrong Rust. `--goals` keeps each goal of a rule that is
 not decided at once as a file of SMT-LIB. `--solver COMMAND` asks another solver, which reads such
-a file, of all that Z3 refutes, and fails if it says that something of it can be met."""
+a file, of all that Z3 refutes or simplifies, and fails if it says that it can be met."""
 
 import argparse
 import ctypes
@@ -40,7 +40,7 @@ import table
 from build import Refusal, build, version
 from ir import Module
 from proof import fault_of
-from state import ANSWERS, LIMIT, SECOND, ask
+from state import ANSWERS, LIMIT, SECOND, ask, use_second
 
 # What the processes share: the options, the IR, the library, and the rows in groups.
 SHARED: tuple[argparse.Namespace, Module, ctypes.CDLL, list[list[table.Row]]]
@@ -104,7 +104,7 @@ def main() -> int:
     parser.add_argument("--turns", type=int, default=3)
     options = parser.parse_args()
     sys.setrecursionlimit(20000)
-    SECOND.extend(options.solver)
+    use_second(options.solver)
     if options.mutants:
         return int(faults.report(options.tree, options.only) > 0)
     for name, lemma in (

@@ -14,6 +14,7 @@ import argparse
 import ctypes
 import os
 import re
+import shlex
 import subprocess
 import sys
 import tempfile
@@ -25,6 +26,7 @@ import z3
 from c_program import CODE, ROWS, constants, program
 from ir import Module
 from proof import Proof, Unknown, fault_of
+from state import ANSWERS, SECOND, use_second
 
 CLANG = "clang-22"
 FLAGS = """-std=gnu11 -O2 -fno-vectorize -fno-slp-vectorize -fno-unroll-loops -fno-strict-aliasing
@@ -95,11 +97,13 @@ def main() -> int:
     parser.add_argument("folder", type=Path, nargs="?", default=HEADER)
     parser.add_argument("--only", default="")
     parser.add_argument("--builds", default=",".join(BUILDS))
+    parser.add_argument("--solver", type=shlex.split, default=[])
     parser.add_argument("--list", action="store_true")
     parser.add_argument("--program", type=Path)
     parser.add_argument("--constants", type=Path)
     options = parser.parse_args()
     sys.setrecursionlimit(20000)
+    use_second(options.solver)
     if options.list:
         print("\n".join(BUILDS))
         return 0
@@ -125,7 +129,10 @@ def main() -> int:
     if not any(re.search(options.only, it.name) for it in ROWS):
         print(f"no row has the pattern {options.only}")
         return 1
-    return int(sum(prove(options.folder, it, options.only) for it in builds) > 0)
+    faults = sum(prove(options.folder, it, options.only) for it in builds)
+    if SECOND:
+        print(f"{SECOND[0]} refutes {ANSWERS['unsat']} of {ANSWERS.total()} goals too")
+    return int(faults > 0)
 
 
 if __name__ == "__main__":

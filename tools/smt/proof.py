@@ -21,7 +21,7 @@ from loops import Loops
 from execution import End, Machine
 from memory import Slice
 from rows.rules import Products, Sums, Text, check_widths, use_width
-from state import LIMIT, QUICK, Disagreement, Goals, ask
+from state import LIMIT, QUICK, Disagreement, Goals, ask, ask_simplified
 from values import Unsupported, constant, number_of
 
 # How many arguments are tried, to find one that shows a fault.
@@ -57,6 +57,7 @@ def fault_of(proof: Provable, turns: int = 3) -> str:
     try:
         proof.sample(turns)
         proof.run()
+        ask_simplified()
     except Refused as error:
         return f"REFUSED: {error}"
     except Unknown as error:

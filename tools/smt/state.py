@@ -11,6 +11,7 @@ from typing import TYPE_CHECKING, Any, NamedTuple
 import z3
 from z3 import BoolRef
 
+from integers import subterms
 from values import YES, Ended, Names, settle
 
 if TYPE_CHECKING:
@@ -21,6 +22,8 @@ if TYPE_CHECKING:
 LIMIT, QUICK = 500_000_000, 1_000_000
 # The command of another solver, or nothing, and how often it gave each answer.
 SECOND, ANSWERS = list[str](), Counter[str]()
+# For the other solver: that a term differs from what Z3 made of it, of bits and of integers.
+SIMPLIFY, MADE = z3.simplify, (dict[tuple[int, int], BoolRef](), dict[tuple[int, int], BoolRef]())
 
 
 class Disagreement(Exception):
@@ -40,6 +43,29 @@ def ask(conditions: Iterable[BoolRef]) -> None:
         if answer == "sat" or answer.startswith("(error"):
             raise Disagreement(f"{SECOND[0]} says {answer} of\n{text}")
         ANSWERS[answer] += 1
+
+
+def simplify(term: Any) -> Any:
+    """Simplifies, and keeps what was done, which takes the place of `z3.simplify`."""
+    found = SIMPLIFY(term)
+    if not found.eq(term):
+        is_of_bits = any(map(z3.is_bv, subterms([term])))
+        MADE[is_of_bits].setdefault((term.get_id(), found.get_id()), term != found)
+    return found
+
+
+def ask_simplified() -> None:
+    """Asks of all that was simplified. A name may be of bits in one term and of integers in another."""
+    for made in MADE:
+        if made:
+            ask([z3.Or([*made.values()])])
+        made.clear()
+
+
+def use_second(command: list[str]) -> None:
+    SECOND.extend(command)
+    if command:
+        z3.simplify = simplify
 
 
 class State(NamedTuple):
