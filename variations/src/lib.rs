@@ -13,4 +13,8 @@ pub mod definitions;
 
 mod generated;
 
+/// The types of `font-types-proved` that stand in signatures here.
+pub use font_types_proved::{
+    DecimalFault, F2Dot14, F48Dot16, Fixed, GlyphId16, InvalidTag, NameId, Tag, UfWord,
+};
 pub use generated::*;

@@ -3,3 +3,4 @@ pub mod Lerps
 pub mod Segments
 pub mod Scalars
 pub mod Stores
+pub mod OneAdvance

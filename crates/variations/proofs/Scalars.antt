@@ -9,6 +9,7 @@ use Rattle.font_types.specs.{Operations.IsMulDiv, Near.near, F2Dot14.F2Dot14, Fi
 use Rattle.font_types.proofs.Callers.{near_is}
 use Rattle.variations.specs.Variations.{IsIgnored, IsOffRegion, IsScalarAfter, is_ignored_axis, share, scalar_after}
 use Rattle.variations.specs.Variations.{IsScalarOf, scalar_of, AreScalars, IsRegionScalar, region_bytes, axis_count}
+use Rattle.variations.specs.Variations.{HasRegion}
 
 -- ---- a share
 
@@ -172,3 +173,24 @@ pub scalar_at : (regions : List ℕ) (coordinates : List F2Dot14) (scalars : Lis
     → IsRegionScalar regions region coordinates (fixed_bits (get_or scalars region d))
 scalar_at regions coordinates scalars region d are within = rw (are.each region d within)
     (scalar_gives (region_bytes regions region) coordinates (axis_count regions))
+
+-- the other facts of scalars, as lemmas for `search`
+pub scalar_low : (regions : List ℕ) (coordinates : List F2Dot14) (scalars : List Fixed) (region : ℕ) (d : Fixed)
+    → AreScalars regions coordinates scalars → region < length scalars
+    → pos 0 ≤ℤ fixed_bits (get_or scalars region d)
+scalar_low regions coordinates scalars region d are within = are.low region d within
+
+pub scalar_high : (regions : List ℕ) (coordinates : List F2Dot14) (scalars : List Fixed) (region : ℕ) (d : Fixed)
+    → AreScalars regions coordinates scalars → region < length scalars
+    → fixed_bits (get_or scalars region d) ≤ℤ pos 65536
+scalar_high regions coordinates scalars region d are within = are.high region d within
+
+pub scalar_there : (regions : List ℕ) (coordinates : List F2Dot14) (scalars : List Fixed) (region : ℕ)
+    → AreScalars regions coordinates scalars → region < length scalars → HasRegion regions region
+scalar_there regions coordinates scalars region are within = are.are_there region within
+
+pub scalar_within : (regions : List ℕ) (coordinates : List F2Dot14) (scalars : List Fixed) (region : ℕ)
+    → AreScalars regions coordinates scalars → HasRegion regions region → region < length scalars
+scalar_within regions coordinates scalars region are has = are.all region has
+
+pub ruleset stored_rules = (scalar_at, scalar_low, scalar_high, scalar_there, scalar_within)

@@ -10,7 +10,7 @@ use Rattle.variations.specs.Variations.{sum_halves, sum_of_magnitudes, region_by
 use Rattle.variations.specs.Variations.{axis_count, delta_of, moved, exact_region_scalar, HasRegion, region_offset}
 use Rattle.variations.specs.Variations.{delta_place, column_place, AreScalars, IsRegionScalar, HasRow, HasDelta}
 use Rattle.variations.specs.Variations.{word_delta_count, IsNearAdvance}
-use Rattle.variations.proofs.Scalars.{scalar_is, scalar_at}
+use Rattle.variations.proofs.Scalars.{scalar_is, scalar_at, stored_rules}
 use Rattle.variations.proofs.Fractions.{IsPartOff, off_by, one_off, next_axis_off, plus_off, scaled_off, whole_off}
 use Rattle.variations.proofs.Fractions.{rounded_off}
 
@@ -156,4 +156,4 @@ row_of_delta subtable set column has =
 
 pub ruleset row_rules = (region_at_most, place_in_row, row_of_delta, scalar_at)
 
-pub ruleset region_rules = (row_rules, scalar_is_near)
+pub ruleset region_rules = (stored_rules, scalar_is_near)

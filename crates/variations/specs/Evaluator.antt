@@ -72,6 +72,7 @@ abbrev pub axis_bytes : List ℕ → ℕ → List ℕ
 axis_bytes fvar axis = drop (axis_offset fvar axis) fvar
 
 -- an axis that values can be normalized by: the default is within the range, and 16.16 holds the length of the range
+-- (own: OpenType allows a longer range, but then a difference of two values may not be one of 16.16)
 pub record HasRange (min default max : ℤ) : Type 0 where
   pub low : min ≤ℤ default
   pub high : default ≤ℤ max

@@ -31,19 +31,6 @@ fn offset_of(words: u16, count: u16, set: u16) -> u64
     6 + 2 * u64::from(count) + narrow_width_of(words) as u64 * (u64::from(set) * row)
 }
 
-// Returns the bytes of a subtable from the first delta of a set on.
-#[inline]
-pub(crate) fn row_of(subtable: &[u8], set: u16) -> Option<&[u8]>
-    ensures variant { IsSome result ↔ HasRow subtable.now set }
-    ensures value { IfSome result (λ row. row.now ≡ row_bytes subtable.now set) }
-{
-    let (words, count) = (u16::read_at(subtable, 2)?, u16::read_at(subtable, 4)?);
-    if set >= u16::read_at(subtable, 0)? || words & WORD_DELTA_COUNT_MASK > count {
-        return None;
-    }
-    subtable.get(usize::try_from(offset_of(words, count, set)).ok()?..)
-}
-
 // Reads the delta of a column from the row of a set, by the count of wide columns.
 fn delta_in(row: &[u8], words: u16, column: u16) -> Option<i32>
     ensures variant { IsSome result
@@ -64,29 +51,6 @@ fn delta_in(row: &[u8], words: u16, column: u16) -> Option<i32>
     }
 }
 
-// Reads the region and the delta of a column, by the row of its set. `_set` is for the contract.
-#[tactic(auto, using(font_types::proofs::Callers::calls, crate::proofs::Stores::row_rules))]
-#[inline]
-pub(crate) fn column_in(
-    subtable: &[u8],
-    row: &[u8],
-    words: u16,
-    _set: u16,
-    column: u16,
-) -> Option<(u16, i32)>
-    requires set { HasRow subtable.now _set }
-    requires row { row.now ≡ row_bytes subtable.now _set }
-    requires words { words ≡ word_delta_count subtable.now }
-    requires column { column < region_index_count subtable.now }
-    ensures variant { IsSome result ↔ HasDelta subtable.now _set column }
-    ensures region { IfSome result (λ read. read.0 ≡ region_index subtable.now column) }
-    ensures delta { IfSome result (λ read. read.1 ≡ delta_of subtable.now _set column) }
-    ensures size { IfSome result (λ read. unsigned_abs read.1 ≤ 2 ^ 31) }
-{
-    let region = u16::read_at(subtable, 6 + 2 * usize::from(column))?;
-    Some((region, delta_in(row, words, column)?))
-}
-
 // Reads a signed integer of one, two or four bytes.
 fn read_signed(bytes: &[u8], offset: usize, width: usize) -> Option<i32>
     requires { (width ≡ 1) ⊎ ((width ≡ 2) ⊎ (width ≡ 4)) }
@@ -99,5 +63,55 @@ fn read_signed(bytes: &[u8], offset: usize, width: usize) -> Option<i32>
         1 => Some(i32::from(i8::read_at(bytes, offset)?)),
         2 => Some(i32::from(i16::read_at(bytes, offset)?)),
         _ => i32::read_at(bytes, offset),
+    }
+}
+
+// The row of a delta set: the bytes from its first delta on. `_set` is for the contracts.
+#[derive(Clone, Copy)]
+pub(crate) struct Row<'a> {
+    subtable: &'a [u8],
+    _set: u16,
+    words: u16,
+    bytes: &'a [u8],
+    ghost there: { HasRow subtable.now _set },
+    ghost is_count: { words ≡ word_delta_count subtable.now },
+    ghost are_bytes: { bytes.now ≡ row_bytes subtable.now _set },
+}
+
+impl<'a> Row<'a> {
+    // Finds the row of a set in a subtable.
+    #[inline]
+    pub(crate) fn new(subtable: &'a [u8], set: u16) -> Option<Row<'a>>
+        ensures variant { IsSome result ↔ HasRow subtable.now set }
+        ensures subtable { IfSome result (λ row. row.subtable.now ≡ subtable.now) }
+        ensures set { IfSome result (λ row. row._set ≡ set) }
+    {
+        let (words, count) = (u16::read_at(subtable, 2)?, u16::read_at(subtable, 4)?);
+        if set >= u16::read_at(subtable, 0)? || words & WORD_DELTA_COUNT_MASK > count {
+            return None;
+        }
+        let bytes = subtable.get(usize::try_from(offset_of(words, count, set)).ok()?..)?;
+        Some(Row {
+            subtable,
+            _set: set,
+            words,
+            bytes,
+        })
+    }
+
+    // Reads the region and the delta of a column.
+    #[tactic(auto, using(font_types::proofs::Callers::calls, crate::proofs::Stores::row_rules))]
+    #[inline]
+    pub(crate) fn column(&self, column: u16) -> Option<(u16, i32)>
+        requires { column < region_index_count self.now.subtable.now }
+        ensures variant { IsSome result ↔ HasDelta self.now.subtable.now self.now._set column }
+        ensures region { IfSome result (λ read.
+            read.0 ≡ region_index self.now.subtable.now column) }
+        ensures delta { IfSome result (λ read.
+            read.1 ≡ delta_of self.now.subtable.now self.now._set column) }
+        ensures size { IfSome result (λ read. unsigned_abs read.1 ≤ 2 ^ 31) }
+    {
+        let region = u16::read_at(self.subtable, 6 + 2 * usize::from(column))?;
+        Some((region, delta_in(self.bytes, self.words, column)?))
     }
 }

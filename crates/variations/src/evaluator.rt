@@ -26,6 +26,13 @@ use thiserror::Error;
 // ---- settings
 
 /// A user's value on an axis.
+///
+/// ```
+/// use font_variations_proved::{Fixed, Setting, Tag};
+/// let setting: Setting = "wdth=87.5".parse().unwrap();
+/// assert_eq!(setting.axis, Tag::new(b"wdth"));
+/// assert_eq!(setting.value, Fixed::from_decimal("87.5").unwrap());
+/// ```
 #[derive(Clone, Copy, PartialEq, Eq, Hash, Debug)]
 pub struct Setting {
     /// The tag of the axis.
@@ -35,6 +42,12 @@ pub struct Setting {
 }
 
 /// Why a text is not a setting.
+///
+/// ```
+/// use font_variations_proved::{Setting, SettingError};
+/// assert_eq!("wght".parse::<Setting>(), Err(SettingError::NoValue));
+/// assert!(matches!("wght=bold".parse::<Setting>(), Err(SettingError::Value(_))));
+/// ```
 #[derive(Clone, PartialEq, Eq, Debug, Drop, Error)]
 pub enum SettingError {
     /// It has no `=`.
@@ -79,6 +92,19 @@ impl FromStr for Setting {
 // ---- `fvar`: normalized coordinates
 
 /// A variation axis, a record of `fvar`.
+///
+/// ```
+/// use font_variations_proved::{Fixed, NameId, Tag, VariationAxisRecord};
+/// let axis = VariationAxisRecord {
+///     axis_tag: Tag::new(b"wght"),
+///     min_value: Fixed::from_i32(100),
+///     default_value: Fixed::from_i32(400),
+///     max_value: Fixed::from_i32(900),
+///     flags: 0,
+///     axis_name_id: NameId::new(256),
+/// };
+/// assert_eq!(axis.normalize(Fixed::from_i32(650)).unwrap().to_string(), "0.5");
+/// ```
 #[derive(Clone, Copy, PartialEq, Eq, Hash, Debug)]
 pub struct VariationAxisRecord {
     /// The tag of the axis, as `wght`.
@@ -96,7 +122,17 @@ pub struct VariationAxisRecord {
 }
 
 /// A table `fvar` of major version 1.
-#[derive(Clone, Copy, Debug)]
+///
+/// ```
+/// use font_variations_proved::{Fixed, Fvar, Tag};
+/// let fvar = b"\0\x01\0\0\0\x10\0\x02\0\x01\0\x14\0\0\0\x04\
+///     wght\0\x64\0\0\x01\x90\0\0\x03\x84\0\0\0\0\x01\0";
+/// let fvar = Fvar::new(fvar).unwrap();
+/// assert_eq!(fvar.axis_count(), 1);
+/// let axis = fvar.axis(0).unwrap();
+/// assert_eq!((axis.axis_tag, axis.max_value), (Tag::new(b"wght"), Fixed::from_i32(900)));
+/// ```
+#[derive(Clone, Copy, PartialEq, Eq, Hash, Debug)]
 pub struct Fvar<'a> {
     bytes: &'a [u8],
     ghost header: { IsFvar bytes.now },
@@ -228,6 +264,10 @@ impl VariationAxisRecord {
     /// Normalizes a value to -1..1: clamps it to the axis, and divides its distance from the default
     /// by that of the end on its side. Returns `None` unless `min <= default <= max` and 16.16
     /// holds `max - min`.
+    ///
+    /// OpenType allows a wider axis, such as one from -20000 to 20000. Its values are not
+    /// normalized, because the distances that are divided are numbers of 16.16, and all of them fit
+    /// only if `max - min` does.
     #[must_use]
     pub fn normalize(&self, value: Fixed) -> Option<Fixed>
         ensures variant { IsSome result ↔ HasRange (fixed_bits self.now.min_value)
@@ -314,7 +354,16 @@ fn to_stored(coordinate: Fixed) -> F2Dot14
 // ---- `avar`: segment maps
 
 /// A table `avar` of major version 1.
-#[derive(Clone, Copy, Debug)]
+///
+/// ```
+/// use font_variations_proved::{Avar, Fixed};
+/// // One axis, with four mappings: -1 and 0 to themselves, 0.5 to 0.25, and 1 to itself.
+/// let avar = b"\0\x01\0\0\0\0\0\x01\0\x04\xC0\0\xC0\0\0\0\0\0\x20\0\x10\0\x40\0\x40\0";
+/// let map = Avar::new(avar).unwrap().segment_map(0).unwrap();
+/// let half = Fixed::from_decimal("0.5").unwrap();
+/// assert_eq!(map.final_coordinate(half).to_string(), "0.25");
+/// ```
+#[derive(Clone, Copy, PartialEq, Eq, Hash, Debug)]
 pub struct Avar<'a> {
     bytes: &'a [u8],
     ghost header: { IsAvar bytes.now },
@@ -391,6 +440,14 @@ fn find_mappings(avar: &[u8], axis: u16) -> Option<&[u8]>
 }
 
 /// The segment maps of a table `avar`, from [`Avar::segment_maps`].
+///
+/// ```
+/// use font_variations_proved::{Avar, SegmentMap};
+/// // Two axes, without mappings.
+/// let avar = [0, 1, 0, 0, 0, 0, 0, 2, 0, 0, 0, 0];
+/// let maps: Vec<SegmentMap> = Avar::new(&avar).unwrap().segment_maps().collect();
+/// assert_eq!(maps, [SegmentMap::default(); 2]);
+/// ```
 #[derive(Debug, Drop)]
 pub struct SegmentMaps<'a> {
     avar: &'a [u8],
@@ -443,6 +500,12 @@ impl<'a> Clone for SegmentMaps<'a> {
 
 /// The mappings of an axis, by which its coordinates change. A font without `avar` has none:
 /// `SegmentMap::default()`.
+///
+/// ```
+/// use font_variations_proved::{Fixed, SegmentMap};
+/// let half = Fixed::from_decimal("0.5").unwrap();
+/// assert_eq!(SegmentMap::default().map(half), half);
+/// ```
 #[derive(Clone, Copy, PartialEq, Eq, Hash, Debug)]
 pub struct SegmentMap<'a> {
     mappings: &'a [u8],

@@ -1,29 +1,46 @@
 //! Item variation stores at the coordinates of an instance.
 
 ghost use Rattle.std.specs.Prelude.{ℕ, ◌≡◌, ◌↔◌, ◌⊎◌, ◌+◌, ◌*◌, ◌<◌, ◌≤◌, ◌^◌, pos, ◌≤ℤ◌, Some};
-ghost use Rattle.std.specs.Prelude.{IsSome, IfSome, IfNone, MatchOption, length, take, drop};
+ghost use Rattle.std.specs.Prelude.{IsSome, IfSome, MatchOption, length};
 ghost use Rattle.std.specs.Prelude.{unsigned_abs};
+ghost use Rattle.std.specs.Option.{ForSome};
 ghost use Rattle.font_types.specs.Fixed;
 ghost use Rattle.font_types.specs.{Fixed.fixed_bits, F48Dot16.f48dot16_bits, FWord.ufword_number};
 ghost use Rattle.variations.specs.Advances.{HasTarget, HasRegionList, HasData, regions_of};
 ghost use Rattle.variations.specs.Advances.{subtable_of};
-ghost use Rattle.variations.specs.Variations.{HasRegion, IsRegionScalar, HasRow, row_bytes};
-ghost use Rattle.variations.specs.Variations.{word_delta_count, region_index_count, IsNoVariation};
+ghost use Rattle.variations.specs.Variations.{HasRegion, IsRegionScalar, region_index_count};
+ghost use Rattle.variations.specs.Variations.{IsNoVariation};
 ghost use Rattle.variations.specs.Variations.{HasNoVaried, HasSet, IsVaried, HasTerm, IsTerm};
 ghost use Rattle.variations.specs.Variations.{IsSetSum, IsNearSetSum, IsNearAdvance, AreScalars};
 ghost use Rattle.variations.specs.Variations.{region_count, IsNearRegionScalar};
 
-use crate::advances::{at_offset, data_of};
-use crate::delta_sets::{column_in, row_of};
+use crate::advances::at_offset;
+use crate::delta_sets::Row;
 use crate::maps::DeltaSetIndex;
-use crate::regions::region_scalars;
+use crate::regions::{region_scalar, region_scalars};
 use font_types::{F2Dot14, F48Dot16, Fixed, Scalar, UfWord};
 
-/// An item variation store of format 1, as of `HVAR`, `MVAR`, `VVAR`, `COLR` and `GDEF`.
-#[derive(Clone, Copy, Debug)]
+/// An item variation store of format 1, such as those of `HVAR`, `MVAR`, `VVAR`, `COLR` and `GDEF`.
+///
+/// ```
+/// use font_variations_proved::{DeltaSetIndex, F2Dot14, ItemVariationStore, UfWord};
+/// // A region from 0 by 1 to 1, and a subtable of one set, whose delta is 40.
+/// let store = [
+///     0, 1, 0, 0, 0, 12, 0, 1, 0, 0, 0, 22, // The offsets of the list and the subtable.
+///     0, 1, 0, 1, 0, 0, 0x40, 0, 0x40, 0, //
+///     0, 1, 0, 1, 0, 1, 0, 0, 0, 40,
+/// ];
+/// let store = ItemVariationStore::new(&store).unwrap();
+/// let half = [F2Dot14::from_decimal("0.5").unwrap()];
+/// let set = DeltaSetIndex { outer: 0, inner: 0 };
+/// assert_eq!(store.vary_advance(UfWord::new(500), set, &half), Some(UfWord::new(520)));
+/// ```
+#[derive(Clone, Copy, PartialEq, Eq, Hash, Debug)]
 pub struct ItemVariationStore<'a> {
     bytes: &'a [u8],
+    regions: &'a [u8],
     ghost list: { HasRegionList bytes.now },
+    ghost are_regions: { regions.now ≡ regions_of bytes.now },
 }
 
 impl<'a> ItemVariationStore<'a> {
@@ -37,8 +54,8 @@ impl<'a> ItemVariationStore<'a> {
         if u16::read_at(bytes, 0)? != 1 {
             return None;
         }
-        let _ = at_offset(bytes, 2)?;
-        Some(ItemVariationStore { bytes })
+        let regions = at_offset(bytes, 2)?;
+        Some(ItemVariationStore { bytes, regions })
     }
 
     /// Returns the count that the list of regions has, or 0 if the list ends before it.
@@ -50,7 +67,7 @@ impl<'a> ItemVariationStore<'a> {
         ensures enough { (region : ℕ)
             → HasRegion (regions_of self.now.bytes.now) region → region < result }
     {
-        read_region_count(self.bytes).unwrap_or(0)
+        u16::read_at(self.regions, 2).unwrap_or(0)
     }
 
     /// Computes the scalars of all regions at these coordinates into the first places of `scalars`,
@@ -65,52 +82,89 @@ impl<'a> ItemVariationStore<'a> {
         ensures variant { IsSome result
             ↔ (¬ HasRegion (regions_of self.now.bytes.now) (length scalars.old)) }
         ensures store { IfSome result (λ instance.
-            instance.store.now ≡ self.now.bytes.now) }
+            instance.store.bytes.now ≡ self.now.bytes.now) }
         ensures coordinates { IfSome result (λ instance.
             instance.coordinates.now ≡ coordinates.now) }
     {
-        let count = write_scalars(self.bytes, coordinates, scalars)?;
+        let count = region_scalars(self.regions, coordinates, scalars)?;
         let scalars: &'a [Fixed] = scalars;
-        let scalars = scalars.get(..count)?;
         Some(StoreInstance {
-            store: self.bytes,
+            store: *self,
             coordinates,
-            scalars,
+            scalars: Some(scalars.get(..count)?),
         })
     }
-}
 
-// Reads the count that the list of regions of a store has.
-fn read_region_count(store: &[u8]) -> Option<u16>
-    ensures variant { IsSome result
-        ↔ (HasTarget store.now 2 × (4 ≤ length (regions_of store.now))) }
-    ensures value { IfSome result (λ count. count ≡ region_count (regions_of store.now)) }
-    ensures enough { IfSome result (λ count. (region : ℕ)
-        → HasRegion (regions_of store.now) region → region < count) }
-{
-    u16::read_at(at_offset(store, 2)?, 2)
-}
-
-// Writes the scalars of the regions of a store to the first places of `scalars`, and returns their
-// number. For `ItemVariationStore::at`, whose contract cannot name what its buffer becomes, because
-// the instance keeps it.
-fn write_scalars(store: &[u8], coordinates: &[F2Dot14], scalars: &mut [Fixed]) -> Option<usize>
-    ensures variant { IsSome result ↔ (HasRegionList store.now
-        × (¬ HasRegion (regions_of store.now) (length scalars.old))) }
-    ensures len { length scalars.new ≡ length scalars.old }
-    ensures kept { IfNone result (scalars.new ≡ scalars.old) }
-    ensures within { IfSome result (λ count. count ≤ length scalars.old) }
-    ensures value { IfSome result (λ count.
-        AreScalars (regions_of store.now) coordinates.now (take count scalars.new)) }
-    ensures rest { IfSome result (λ count. drop count scalars.new ≡ drop count scalars.old) }
-{
-    if u16::read_at(store, 0)? != 1 {
-        return None;
+    /// Varies an advance by a set at these coordinates, as [`StoreInstance::vary`] does, but without
+    /// a buffer.
+    ///
+    /// It walks all axes of the region of each column of the set, so the time is that of all axes
+    /// times all columns, whatever the number of coordinates. For more than one advance, and for an
+    /// untrusted font, use [`at`](ItemVariationStore::at).
+    #[must_use]
+    pub fn vary_advance(
+        &self,
+        advance: UfWord,
+        set: DeltaSetIndex,
+        coordinates: &'a [F2Dot14],
+    ) -> Option<UfWord>
+        ensures unvaried { IsNoVariation set.outer set.inner → result ≡ Some advance }
+        ensures value { ¬ IsNoVariation set.outer set.inner → MatchOption result
+            ((¬ HasData self.now.bytes.now set.outer set.inner) ⊎ HasNoVaried
+            (regions_of self.now.bytes.now) (subtable_of self.now.bytes.now set.outer)
+            coordinates.now set.inner (ufword_number advance))
+            (λ varied. HasData self.now.bytes.now set.outer set.inner
+            × HasSet (regions_of self.now.bytes.now) (subtable_of self.now.bytes.now set.outer)
+            set.inner
+            × IsVaried (regions_of self.now.bytes.now) (subtable_of self.now.bytes.now set.outer)
+            coordinates.now set.inner (ufword_number advance) (pos (ufword_number varied))) }
+        ensures near { ¬ IsNoVariation set.outer set.inner → IfSome result (λ varied.
+            IsNearAdvance (regions_of self.now.bytes.now)
+            (subtable_of self.now.bytes.now set.outer) coordinates.now set.inner
+            (ufword_number advance) (pos (ufword_number varied))) }
+    {
+        let instance = StoreInstance {
+            store: *self,
+            coordinates,
+            scalars: None,
+        };
+        instance.vary(advance, set)
     }
-    region_scalars(at_offset(store, 2)?, coordinates, scalars)
+
+    // Finds the subtable of a set, and the index of the set in it.
+    fn data(&self, set: DeltaSetIndex) -> Option<(&'a [u8], u16)>
+        ensures variant { IsSome result ↔ HasData self.now.bytes.now set.outer set.inner }
+        ensures subtable { IfSome result (λ found.
+            found.0.now ≡ subtable_of self.now.bytes.now set.outer) }
+        ensures inner { IfSome result (λ found. found.1 ≡ set.inner) }
+    {
+        let count = u16::read_at(self.bytes, 6)?;
+        if self.bytes.len() < 8 + 4 * usize::from(count) || set.outer >= u32::from(count) {
+            return None;
+        }
+        let subtable = at_offset(self.bytes, 8 + 4 * set.outer as usize)?;
+        Some((subtable, u16::try_from(set.inner).ok()?))
+    }
 }
 
 /// An item variation store at the coordinates of an instance, with the scalar of each region.
+///
+/// ```
+/// use font_variations_proved::{DeltaSetIndex, F2Dot14, F48Dot16, Fixed, ItemVariationStore, UfWord};
+/// // A region from 0 by 1 to 1, and a subtable of one set, whose delta is 40.
+/// let store = [
+///     0, 1, 0, 0, 0, 12, 0, 1, 0, 0, 0, 22, // The offsets of the list and the subtable.
+///     0, 1, 0, 1, 0, 0, 0x40, 0, 0x40, 0, //
+///     0, 1, 0, 1, 0, 1, 0, 0, 0, 40,
+/// ];
+/// let store = ItemVariationStore::new(&store).unwrap();
+/// let half = [F2Dot14::from_decimal("0.5").unwrap()];
+/// let mut scalars = vec![Fixed::ZERO; store.region_count().into()];
+/// let instance = store.at(&half, &mut scalars).unwrap();
+/// let set = DeltaSetIndex { outer: 0, inner: 0 };
+/// assert_eq!(instance.delta(set), Some(F48Dot16::from_i64(20)));
+/// assert_eq!(instance.vary(UfWord::new(500), set), Some(UfWord::new(520)));
+/// ```
 ///
 /// [`at`](ItemVariationStore::at) walks each axis of each region once. Its time is linear in the
 /// bytes of the store and the number of its regions, which is at most 32,767. After that a delta of
@@ -122,13 +176,23 @@ fn write_scalars(store: &[u8], coordinates: &[F2Dot14], scalars: &mut [Fixed]) -
 /// bound the time, limit the length of the store, or how many glyphs you vary.
 #[derive(Clone, Copy, Debug)]
 pub struct StoreInstance<'a> {
-    store: &'a [u8],
+    store: ItemVariationStore<'a>,
     coordinates: &'a [F2Dot14],
-    scalars: &'a [Fixed],
-    ghost at: { AreScalars (regions_of store.now) coordinates.now scalars.now },
+    // `None` if each scalar is computed where it is needed.
+    scalars: Option<&'a [Fixed]>,
+    ghost at: { ForSome scalars (λ scalars.
+        AreScalars (regions_of store.bytes.now) coordinates.now scalars.now) },
 }
 
 impl<'a> StoreInstance<'a> {
+    /// Returns the store.
+    #[must_use]
+    pub fn store(&self) -> ItemVariationStore<'a>
+        ensures { result.bytes.now ≡ self.now.store.bytes.now }
+    {
+        self.store
+    }
+
     /// Returns the coordinates.
     #[must_use]
     pub fn coordinates(&self) -> &'a [F2Dot14]
@@ -144,52 +208,45 @@ impl<'a> StoreInstance<'a> {
     #[must_use]
     #[tactic(auto, using(font_types::proofs::Callers::calls, crate::proofs::Stores::region_rules))]
     pub fn scalar(&self, region: u16) -> Option<Fixed>
-        ensures variant { IsSome result ↔ HasRegion (regions_of self.now.store.now) region }
-        ensures value { IfSome result (λ scalar. IsRegionScalar (regions_of self.now.store.now)
+        ensures variant { IsSome result ↔ HasRegion (regions_of self.now.store.bytes.now) region }
+        ensures value { IfSome result (λ scalar. IsRegionScalar (regions_of self.now.store.bytes.now)
             region self.now.coordinates.now (fixed_bits scalar)) }
         ensures near { IfSome result (λ scalar. IsNearRegionScalar
-            (regions_of self.now.store.now) region self.now.coordinates.now (fixed_bits scalar)) }
+            (regions_of self.now.store.bytes.now) region self.now.coordinates.now (fixed_bits scalar)) }
         ensures low { IfSome result (λ scalar. pos 0 ≤ℤ fixed_bits scalar) }
         ensures high { IfSome result (λ scalar. fixed_bits scalar ≤ℤ fixed_bits Fixed.ONE) }
     {
-        self.scalars.get(usize::from(region)).copied()
+        match self.scalars {
+            Some(scalars) => scalars.get(usize::from(region)).copied(),
+            None => region_scalar(self.store.regions, region, self.coordinates),
+        }
     }
 
     // Returns the scalar of a column's region and the delta of the column.
-    fn term(
-        &self,
-        subtable: &[u8],
-        row: &[u8],
-        words: u16,
-        set: u16,
-        column: u16,
-    ) -> Option<(Fixed, i32)>
-        requires set { HasRow subtable.now set }
-        requires row { row.now ≡ row_bytes subtable.now set }
-        requires words { words ≡ word_delta_count subtable.now }
-        requires column { column < region_index_count subtable.now }
-        ensures variant { IsSome result
-            ↔ HasTerm (regions_of self.now.store.now) subtable.now set column }
-        ensures value { IfSome result (λ term. IsTerm (regions_of self.now.store.now) subtable.now
-            self.now.coordinates.now set column term) }
+    fn term(&self, row: &Row<'_>, column: u16) -> Option<(Fixed, i32)>
+        requires { column < region_index_count row.now.subtable.now }
+        ensures variant { IsSome result ↔ HasTerm (regions_of self.now.store.bytes.now)
+            row.now.subtable.now row.now._set column }
+        ensures value { IfSome result (λ term. IsTerm (regions_of self.now.store.bytes.now)
+            row.now.subtable.now self.now.coordinates.now row.now._set column term) }
         ensures low { IfSome result (λ term. pos 0 ≤ℤ fixed_bits term.0) }
         ensures high { IfSome result (λ term. fixed_bits term.0 ≤ℤ fixed_bits Fixed.ONE) }
         ensures size { IfSome result (λ term. unsigned_abs term.1 ≤ 2 ^ 31) }
     {
-        let (region, delta) = column_in(subtable, row, words, set, column)?;
+        let (region, delta) = row.column(column)?;
         Some((self.scalar(region)?, delta))
     }
 
     // Returns the exact sum of the deltas of a set, each times the scalar of its region.
     #[tactic(auto, using(font_types::proofs::Callers::calls, crate::proofs::Stores::sum_rules))]
     fn sum(&self, subtable: &[u8], set: u16) -> Option<F48Dot16>
-        ensures variant { IsSome result ↔ HasSet (regions_of self.now.store.now) subtable.now set }
-        ensures value { IfSome result (λ sum. IsSetSum (regions_of self.now.store.now) subtable.now
+        ensures variant { IsSome result ↔ HasSet (regions_of self.now.store.bytes.now) subtable.now set }
+        ensures value { IfSome result (λ sum. IsSetSum (regions_of self.now.store.bytes.now) subtable.now
             self.now.coordinates.now set (f48dot16_bits sum)) }
-        ensures near { IfSome result (λ sum. IsNearSetSum (regions_of self.now.store.now)
+        ensures near { IfSome result (λ sum. IsNearSetSum (regions_of self.now.store.bytes.now)
             subtable.now self.now.coordinates.now set (f48dot16_bits sum)) }
     {
-        let (words, count) = (u16::read_at(subtable, 2)?, u16::read_at(subtable, 4)?);
+        let count = u16::read_at(subtable, 4)?;
         if set >= u16::read_at(subtable, 0)? {
             return None;
         }
@@ -197,9 +254,9 @@ impl<'a> StoreInstance<'a> {
         if count == 0 {
             return Some(sum);
         }
-        let row = row_of(subtable, set)?;
+        let row = Row::new(subtable, set)?;
         for column in 0..count {
-            let (scalar, delta) = self.term(subtable, row, words, set, column)?;
+            let (scalar, delta) = self.term(&row, column)?;
             sum += scalar.mul_i32(delta);
         }
         Some(sum)
@@ -212,30 +269,30 @@ impl<'a> StoreInstance<'a> {
         ensures unvaried { IsNoVariation set.outer set.inner
             → IfSome result (λ sum. f48dot16_bits sum ≡ pos 0) }
         ensures variant { ¬ IsNoVariation set.outer set.inner → IsSome result
-            ↔ (HasData self.now.store.now set.outer set.inner × HasSet (regions_of
-            self.now.store.now) (subtable_of self.now.store.now set.outer) set.inner) }
+            ↔ (HasData self.now.store.bytes.now set.outer set.inner × HasSet (regions_of
+            self.now.store.bytes.now) (subtable_of self.now.store.bytes.now set.outer) set.inner) }
         ensures value { ¬ IsNoVariation set.outer set.inner → IfSome result (λ sum. IsSetSum
-            (regions_of self.now.store.now) (subtable_of self.now.store.now set.outer)
+            (regions_of self.now.store.bytes.now) (subtable_of self.now.store.bytes.now set.outer)
             self.now.coordinates.now set.inner (f48dot16_bits sum)) }
         ensures near { ¬ IsNoVariation set.outer set.inner → IfSome result (λ sum. IsNearSetSum
-            (regions_of self.now.store.now) (subtable_of self.now.store.now set.outer)
+            (regions_of self.now.store.bytes.now) (subtable_of self.now.store.bytes.now set.outer)
             self.now.coordinates.now set.inner (f48dot16_bits sum)) }
     {
         if set.is_no_variation() {
             return Some(F48Dot16::ZERO);
         }
-        let (_, subtable, inner) = data_of(self.store, set)?;
+        let (subtable, inner) = self.store.data(set)?;
         self.sum(subtable, inner)
     }
 
     // Adds the sum of a set to an advance and rounds once.
     fn vary_set(&self, advance: UfWord, subtable: &[u8], set: u16) -> Option<UfWord>
-        ensures value { MatchOption result (HasNoVaried (regions_of self.now.store.now)
+        ensures value { MatchOption result (HasNoVaried (regions_of self.now.store.bytes.now)
             subtable.now self.now.coordinates.now set (ufword_number advance))
-            (λ varied. HasSet (regions_of self.now.store.now) subtable.now set
-            × IsVaried (regions_of self.now.store.now) subtable.now self.now.coordinates.now set
+            (λ varied. HasSet (regions_of self.now.store.bytes.now) subtable.now set
+            × IsVaried (regions_of self.now.store.bytes.now) subtable.now self.now.coordinates.now set
             (ufword_number advance) (pos (ufword_number varied))) }
-        ensures near { IfSome result (λ varied. IsNearAdvance (regions_of self.now.store.now)
+        ensures near { IfSome result (λ varied. IsNearAdvance (regions_of self.now.store.bytes.now)
             subtable.now self.now.coordinates.now set (ufword_number advance)
             (pos (ufword_number varied))) }
     {
@@ -249,24 +306,24 @@ impl<'a> StoreInstance<'a> {
     pub fn vary(&self, advance: UfWord, set: DeltaSetIndex) -> Option<UfWord>
         ensures unvaried { IsNoVariation set.outer set.inner → result ≡ Some advance }
         ensures value { ¬ IsNoVariation set.outer set.inner → MatchOption result
-            ((¬ HasData self.now.store.now set.outer set.inner) ⊎ HasNoVaried
-            (regions_of self.now.store.now) (subtable_of self.now.store.now set.outer)
+            ((¬ HasData self.now.store.bytes.now set.outer set.inner) ⊎ HasNoVaried
+            (regions_of self.now.store.bytes.now) (subtable_of self.now.store.bytes.now set.outer)
             self.now.coordinates.now set.inner (ufword_number advance))
-            (λ varied. HasData self.now.store.now set.outer set.inner
-            × HasSet (regions_of self.now.store.now) (subtable_of self.now.store.now set.outer)
+            (λ varied. HasData self.now.store.bytes.now set.outer set.inner
+            × HasSet (regions_of self.now.store.bytes.now) (subtable_of self.now.store.bytes.now set.outer)
             set.inner
-            × IsVaried (regions_of self.now.store.now) (subtable_of self.now.store.now set.outer)
+            × IsVaried (regions_of self.now.store.bytes.now) (subtable_of self.now.store.bytes.now set.outer)
             self.now.coordinates.now set.inner (ufword_number advance)
             (pos (ufword_number varied))) }
         ensures near { ¬ IsNoVariation set.outer set.inner → IfSome result (λ varied.
-            IsNearAdvance (regions_of self.now.store.now) (subtable_of self.now.store.now set.outer)
+            IsNearAdvance (regions_of self.now.store.bytes.now) (subtable_of self.now.store.bytes.now set.outer)
             self.now.coordinates.now set.inner (ufword_number advance)
             (pos (ufword_number varied))) }
     {
         if set.is_no_variation() {
             return Some(advance);
         }
-        let (_, subtable, inner) = data_of(self.store, set)?;
+        let (subtable, inner) = self.store.data(set)?;
         self.vary_set(advance, subtable, inner)
     }
 }

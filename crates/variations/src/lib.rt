@@ -12,6 +12,8 @@ mod advances;
 mod delta_sets;
 mod evaluator;
 mod instances;
+#[doc(hidden)]
+pub mod laws;
 mod maps;
 mod regions;
 #[cfg(test)]

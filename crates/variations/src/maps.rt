@@ -9,6 +9,11 @@ ghost use Rattle.variations.specs.Variations.{map_format};
 use font_types::{Scalar, Uint24};
 
 /// The indices of a delta set: of a subtable, and in it.
+///
+/// ```
+/// use font_variations_proved::DeltaSetIndex;
+/// assert_eq!(DeltaSetIndex::from_u32(0x1_0002), DeltaSetIndex { outer: 1, inner: 2 });
+/// ```
 #[derive(Clone, Copy, PartialEq, Eq, Hash, Debug)]
 pub struct DeltaSetIndex {
     /// The index of the subtable in the store.
@@ -47,7 +52,15 @@ impl DeltaSetIndex {
     }
 }
 
-/// A map from indices to delta sets, as of `HVAR`, `VVAR` and `COLR`.
+/// A map from indices to delta sets, such as those of `HVAR`, `VVAR` and `COLR`.
+///
+/// ```
+/// use font_variations_proved::{DeltaSetIndex, DeltaSetIndexMap};
+/// // Two entries of two bytes, which have the inner index in the low eight bits.
+/// let map = DeltaSetIndexMap::new(&[0, 0x17, 0, 2, 0, 1, 3, 5]).unwrap();
+/// assert_eq!(map.get(0), Some(DeltaSetIndex { outer: 0, inner: 1 }));
+/// assert_eq!(map.get(9), Some(DeltaSetIndex { outer: 3, inner: 5 }));
+/// ```
 #[derive(Clone, Copy, PartialEq, Eq, Hash, Debug)]
 pub struct DeltaSetIndexMap<'a> {
     bytes: &'a [u8],

@@ -14,6 +14,17 @@ ghost use Rattle.variations.specs.Variations.{AreScalars};
 use font_types::{F2Dot14, Fixed, Scalar};
 
 /// The extent of a region along one axis.
+///
+/// ```
+/// use font_variations_proved::{F2Dot14, RegionAxisCoordinates};
+/// let axis = RegionAxisCoordinates {
+///     start_coord: F2Dot14::ZERO,
+///     peak_coord: F2Dot14::ONE,
+///     end_coord: F2Dot14::ONE,
+/// };
+/// let quarter = F2Dot14::from_decimal("0.25").unwrap();
+/// assert_eq!(axis.scalar(quarter).to_string(), "0.25");
+/// ```
 #[derive(Clone, Copy, PartialEq, Eq, Hash, Debug)]
 pub struct RegionAxisCoordinates {
     /// Where the region starts.
@@ -199,7 +210,7 @@ fn find_region(regions: &[u8], region: u16) -> Option<&[u8]>
 // list does not have the region. Axes beyond the coordinates are at their default.
 //
 // The product is rounded once for each axis, in the order of the axes, half up.
-fn region_scalar(regions: &[u8], region: u16, coordinates: &[F2Dot14]) -> Option<Fixed>
+pub(crate) fn region_scalar(regions: &[u8], region: u16, coordinates: &[F2Dot14]) -> Option<Fixed>
     ensures variant { IsSome result ↔ HasRegion regions.now region }
     ensures value { IfSome result (λ scalar.
         IsRegionScalar regions.now region coordinates.now (fixed_bits scalar)) }
@@ -223,9 +234,10 @@ fn has_more(regions: &[u8], scalars: usize) -> bool
     }
 }
 
-/// Writes the scalar of each region of a list, in order, and returns how many regions it has, those
-/// that it ends before left out. If there are more of them than `scalars`, returns `None`, and
-/// writes nothing.
+// Writes the scalar of each region of a list, in order, and returns how many regions it has, those
+// that it ends before left out. If there are more of them than `scalars`, returns `None`, and
+// writes nothing. The contract of `ItemVariationStore::at` cannot name what its buffer becomes,
+// because the instance keeps it.
 #[tactic(auto, using(font_types::proofs::Callers::calls, crate::proofs::Stores::row_rules))]
 pub(crate) fn region_scalars(
     regions: &[u8],

@@ -29,6 +29,19 @@ fn glyph_set(hvar: &[u8], glyph: u16) -> Option<DeltaSetIndex> {
 
 /// A table `HVAR` of major version 1.
 ///
+/// ```
+/// use font_variations_proved::{DeltaSetIndex, GlyphId16, Hvar};
+/// // The header, and a store at byte 20, whose list of regions at byte 12 is empty. Without a map,
+/// // the set of a glyph has its number.
+/// let mut hvar = [0; 36];
+/// hvar[..8].copy_from_slice(&[0, 1, 0, 0, 0, 0, 0, 20]);
+/// hvar[20..32].copy_from_slice(&[0, 1, 0, 0, 0, 12, 0, 0, 0, 0, 0, 0]);
+/// let hvar = Hvar::new(&hvar).unwrap();
+/// assert_eq!(hvar.store().region_count(), 0);
+/// let set = hvar.advance_set(GlyphId16::new(7));
+/// assert_eq!(set, Some(DeltaSetIndex { outer: 0, inner: 7 }));
+/// ```
+///
 /// The source and its contracts: `crates/variations/src/advances.rt`.
 ///
 /// <details><summary>Contract</summary>
@@ -38,7 +51,7 @@ fn glyph_set(hvar: &[u8], glyph: u16) -> Option<DeltaSetIndex> {
 /// ```
 /// [Notation](crate::definitions): [`target_of`]
 /// </details>
-#[derive(Clone, Copy, Debug)]
+#[derive(Clone, Copy, PartialEq, Eq, Hash, Debug)]
 pub struct Hvar<'a> {
     bytes: &'a [u8],
     store: ItemVariationStore<'a>,
@@ -97,15 +110,4 @@ impl<'a> Hvar<'a> {
     pub fn advance_set(&self, glyph: GlyphId16) -> Option<DeltaSetIndex> {
         glyph_set(self.bytes, glyph.to_u16())
     }
-}
-
-// Finds the list of regions, the subtable of a delta set, and the index of the set in it.
-pub(crate) fn data_of(store: &[u8], set: DeltaSetIndex) -> Option<(&[u8], &[u8], u16)> {
-    let (format, count) = (u16::read_at(store, 0)?, u16::read_at(store, 6)?);
-    if format != 1 || store.len() < 8 + 4 * usize::from(count) || set.outer >= u32::from(count) {
-        return None;
-    }
-    let regions = at_offset(store, 2)?;
-    let subtable = at_offset(store, 8 + 4 * set.outer as usize)?;
-    Some((regions, subtable, u16::try_from(set.inner).ok()?))
 }

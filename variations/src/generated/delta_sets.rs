@@ -2,6 +2,9 @@
 
 //! Delta sets of item variation data: their rows, and the deltas of their columns.
 
+#[cfg(doc)]
+use crate::definitions::variations::Variations_antt::{HasRow, row_bytes, word_delta_count};
+
 use font_types_proved::Scalar;
 
 // The parts of `wordDeltaCount`.
@@ -20,16 +23,6 @@ fn offset_of(words: u16, count: u16, set: u16) -> u64 {
     6 + 2 * u64::from(count) + narrow_width_of(words) as u64 * (u64::from(set) * row)
 }
 
-// Returns the bytes of a subtable from the first delta of a set on.
-#[inline]
-pub(crate) fn row_of(subtable: &[u8], set: u16) -> Option<&[u8]> {
-    let (words, count) = (u16::read_at(subtable, 2)?, u16::read_at(subtable, 4)?);
-    if set >= u16::read_at(subtable, 0)? || words & WORD_DELTA_COUNT_MASK > count {
-        return None;
-    }
-    subtable.get(usize::try_from(offset_of(words, count, set)).ok()?..)
-}
-
 // Reads the delta of a column from the row of a set, by the count of wide columns.
 fn delta_in(row: &[u8], words: u16, column: u16) -> Option<i32> {
     let (wide, at) = (usize::from(words & WORD_DELTA_COUNT_MASK), usize::from(column));
@@ -41,24 +34,49 @@ fn delta_in(row: &[u8], words: u16, column: u16) -> Option<i32> {
     }
 }
 
-// Reads the region and the delta of a column, by the row of its set. `_set` is for the contract.
-#[inline]
-pub(crate) fn column_in(
-    subtable: &[u8],
-    row: &[u8],
-    words: u16,
-    _set: u16,
-    column: u16,
-) -> Option<(u16, i32)> {
-    let region = u16::read_at(subtable, 6 + 2 * usize::from(column))?;
-    Some((region, delta_in(row, words, column)?))
-}
-
 // Reads a signed integer of one, two or four bytes.
 fn read_signed(bytes: &[u8], offset: usize, width: usize) -> Option<i32> {
     match width {
         1 => Some(i32::from(i8::read_at(bytes, offset)?)),
         2 => Some(i32::from(i16::read_at(bytes, offset)?)),
         _ => i32::read_at(bytes, offset),
+    }
+}
+
+// The row of a delta set: the bytes from its first delta on. `_set` is for the contracts.
+/// <details><summary>Contract</summary>
+///
+/// ```text
+/// ghost there: { HasRow subtable.now _set },
+/// ghost is_count: { words ≡ word_delta_count subtable.now },
+/// ghost are_bytes: { bytes.now ≡ row_bytes subtable.now _set },
+/// ```
+/// [Notation](crate::definitions): [`HasRow`], [`word_delta_count`], [`row_bytes`]
+/// </details>
+#[derive(Clone, Copy)]
+pub(crate) struct Row<'a> {
+    subtable: &'a [u8],
+    _set: u16,
+    words: u16,
+    bytes: &'a [u8],
+}
+
+impl<'a> Row<'a> {
+    // Finds the row of a set in a subtable.
+    #[inline]
+    pub(crate) fn new(subtable: &'a [u8], set: u16) -> Option<Row<'a>> {
+        let (words, count) = (u16::read_at(subtable, 2)?, u16::read_at(subtable, 4)?);
+        if set >= u16::read_at(subtable, 0)? || words & WORD_DELTA_COUNT_MASK > count {
+            return None;
+        }
+        let bytes = subtable.get(usize::try_from(offset_of(words, count, set)).ok()?..)?;
+        Some(Row { subtable, _set: set, words, bytes })
+    }
+
+    // Reads the region and the delta of a column.
+    #[inline]
+    pub(crate) fn column(&self, column: u16) -> Option<(u16, i32)> {
+        let region = u16::read_at(self.subtable, 6 + 2 * usize::from(column))?;
+        Some((region, delta_in(self.bytes, self.words, column)?))
     }
 }

@@ -26,6 +26,13 @@ use font_types_proved::{DecimalFault, F2Dot14, Fixed, InvalidTag, NameId, Scalar
 
 /// A user's value on an axis.
 ///
+/// ```
+/// use font_variations_proved::{Fixed, Setting, Tag};
+/// let setting: Setting = "wdth=87.5".parse().unwrap();
+/// assert_eq!(setting.axis, Tag::new(b"wdth"));
+/// assert_eq!(setting.value, Fixed::from_decimal("87.5").unwrap());
+/// ```
+///
 /// The source and its contracts: `crates/variations/src/evaluator.rt`.
 #[derive(Clone, Copy, PartialEq, Eq, Hash, Debug)]
 pub struct Setting {
@@ -36,6 +43,12 @@ pub struct Setting {
 }
 
 /// Why a text is not a setting.
+///
+/// ```
+/// use font_variations_proved::{Setting, SettingError};
+/// assert_eq!("wght".parse::<Setting>(), Err(SettingError::NoValue));
+/// assert!(matches!("wght=bold".parse::<Setting>(), Err(SettingError::Value(_))));
+/// ```
 ///
 /// The source and its contracts: `crates/variations/src/evaluator.rt`.
 #[derive(Clone, PartialEq, Eq, Debug)]
@@ -94,6 +107,19 @@ impl FromStr for Setting {
 
 /// A variation axis, a record of `fvar`.
 ///
+/// ```
+/// use font_variations_proved::{Fixed, NameId, Tag, VariationAxisRecord};
+/// let axis = VariationAxisRecord {
+///     axis_tag: Tag::new(b"wght"),
+///     min_value: Fixed::from_i32(100),
+///     default_value: Fixed::from_i32(400),
+///     max_value: Fixed::from_i32(900),
+///     flags: 0,
+///     axis_name_id: NameId::new(256),
+/// };
+/// assert_eq!(axis.normalize(Fixed::from_i32(650)).unwrap().to_string(), "0.5");
+/// ```
+///
 /// The source and its contracts: `crates/variations/src/evaluator.rt`.
 #[derive(Clone, Copy, PartialEq, Eq, Hash, Debug)]
 pub struct VariationAxisRecord {
@@ -113,6 +139,16 @@ pub struct VariationAxisRecord {
 
 /// A table `fvar` of major version 1.
 ///
+/// ```
+/// use font_variations_proved::{Fixed, Fvar, Tag};
+/// let fvar = b"\0\x01\0\0\0\x10\0\x02\0\x01\0\x14\0\0\0\x04\
+///     wght\0\x64\0\0\x01\x90\0\0\x03\x84\0\0\0\0\x01\0";
+/// let fvar = Fvar::new(fvar).unwrap();
+/// assert_eq!(fvar.axis_count(), 1);
+/// let axis = fvar.axis(0).unwrap();
+/// assert_eq!((axis.axis_tag, axis.max_value), (Tag::new(b"wght"), Fixed::from_i32(900)));
+/// ```
+///
 /// The source and its contracts: `crates/variations/src/evaluator.rt`.
 ///
 /// <details><summary>Contract</summary>
@@ -122,7 +158,7 @@ pub struct VariationAxisRecord {
 /// ```
 /// [Notation](crate::definitions): [`IsFvar`]
 /// </details>
-#[derive(Clone, Copy, Debug)]
+#[derive(Clone, Copy, PartialEq, Eq, Hash, Debug)]
 pub struct Fvar<'a> {
     bytes: &'a [u8],
 }
@@ -232,6 +268,10 @@ impl VariationAxisRecord {
     /// by that of the end on its side. Returns `None` unless `min <= default <= max` and 16.16
     /// holds `max - min`.
     ///
+    /// OpenType allows a wider axis, such as one from -20000 to 20000. Its values are not
+    /// normalized, because the distances that are divided are numbers of 16.16, and all of them fit
+    /// only if `max - min` does.
+    ///
     /// <details><summary>Contract</summary>
     ///
     /// ```text
@@ -299,6 +339,15 @@ fn to_stored(coordinate: Fixed) -> F2Dot14 {
 
 /// A table `avar` of major version 1.
 ///
+/// ```
+/// use font_variations_proved::{Avar, Fixed};
+/// // One axis, with four mappings: -1 and 0 to themselves, 0.5 to 0.25, and 1 to itself.
+/// let avar = b"\0\x01\0\0\0\0\0\x01\0\x04\xC0\0\xC0\0\0\0\0\0\x20\0\x10\0\x40\0\x40\0";
+/// let map = Avar::new(avar).unwrap().segment_map(0).unwrap();
+/// let half = Fixed::from_decimal("0.5").unwrap();
+/// assert_eq!(map.final_coordinate(half).to_string(), "0.25");
+/// ```
+///
 /// The source and its contracts: `crates/variations/src/evaluator.rt`.
 ///
 /// <details><summary>Contract</summary>
@@ -308,7 +357,7 @@ fn to_stored(coordinate: Fixed) -> F2Dot14 {
 /// ```
 /// [Notation](crate::definitions): [`IsAvar`]
 /// </details>
-#[derive(Clone, Copy, Debug)]
+#[derive(Clone, Copy, PartialEq, Eq, Hash, Debug)]
 pub struct Avar<'a> {
     bytes: &'a [u8],
 }
@@ -400,6 +449,14 @@ fn find_mappings(avar: &[u8], axis: u16) -> Option<&[u8]> {
 
 /// The segment maps of a table `avar`, from [`Avar::segment_maps`].
 ///
+/// ```
+/// use font_variations_proved::{Avar, SegmentMap};
+/// // Two axes, without mappings.
+/// let avar = [0, 1, 0, 0, 0, 0, 0, 2, 0, 0, 0, 0];
+/// let maps: Vec<SegmentMap> = Avar::new(&avar).unwrap().segment_maps().collect();
+/// assert_eq!(maps, [SegmentMap::default(); 2]);
+/// ```
+///
 /// The source and its contracts: `crates/variations/src/evaluator.rt`.
 ///
 /// <details><summary>Contract</summary>
@@ -452,6 +509,12 @@ impl<'a> Clone for SegmentMaps<'a> {
 
 /// The mappings of an axis, by which its coordinates change. A font without `avar` has none:
 /// `SegmentMap::default()`.
+///
+/// ```
+/// use font_variations_proved::{Fixed, SegmentMap};
+/// let half = Fixed::from_decimal("0.5").unwrap();
+/// assert_eq!(SegmentMap::default().map(half), half);
+/// ```
 ///
 /// The source and its contracts: `crates/variations/src/evaluator.rt`.
 #[derive(Clone, Copy, PartialEq, Eq, Hash, Debug)]

@@ -15,13 +15,27 @@ use crate::definitions::variations::{
     },
 };
 
-use super::advances::{at_offset, data_of};
-use super::delta_sets::{column_in, row_of};
+use super::advances::at_offset;
+use super::delta_sets::Row;
 use super::maps::DeltaSetIndex;
-use super::regions::region_scalars;
+use super::regions::{region_scalar, region_scalars};
 use font_types_proved::{F2Dot14, F48Dot16, Fixed, Scalar, UfWord};
 
-/// An item variation store of format 1, as of `HVAR`, `MVAR`, `VVAR`, `COLR` and `GDEF`.
+/// An item variation store of format 1, such as those of `HVAR`, `MVAR`, `VVAR`, `COLR` and `GDEF`.
+///
+/// ```
+/// use font_variations_proved::{DeltaSetIndex, F2Dot14, ItemVariationStore, UfWord};
+/// // A region from 0 by 1 to 1, and a subtable of one set, whose delta is 40.
+/// let store = [
+///     0, 1, 0, 0, 0, 12, 0, 1, 0, 0, 0, 22, // The offsets of the list and the subtable.
+///     0, 1, 0, 1, 0, 0, 0x40, 0, 0x40, 0, //
+///     0, 1, 0, 1, 0, 1, 0, 0, 0, 40,
+/// ];
+/// let store = ItemVariationStore::new(&store).unwrap();
+/// let half = [F2Dot14::from_decimal("0.5").unwrap()];
+/// let set = DeltaSetIndex { outer: 0, inner: 0 };
+/// assert_eq!(store.vary_advance(UfWord::new(500), set, &half), Some(UfWord::new(520)));
+/// ```
 ///
 /// The source and its contracts: `crates/variations/src/instances.rt`.
 ///
@@ -29,12 +43,14 @@ use font_types_proved::{F2Dot14, F48Dot16, Fixed, Scalar, UfWord};
 ///
 /// ```text
 /// ghost list: { HasRegionList bytes.now },
+/// ghost are_regions: { regions.now ≡ regions_of bytes.now },
 /// ```
-/// [Notation](crate::definitions): [`HasRegionList`]
+/// [Notation](crate::definitions): [`HasRegionList`], [`regions_of`]
 /// </details>
-#[derive(Clone, Copy, Debug)]
+#[derive(Clone, Copy, PartialEq, Eq, Hash, Debug)]
 pub struct ItemVariationStore<'a> {
     bytes: &'a [u8],
+    regions: &'a [u8],
 }
 
 impl<'a> ItemVariationStore<'a> {
@@ -54,8 +70,8 @@ impl<'a> ItemVariationStore<'a> {
         if u16::read_at(bytes, 0)? != 1 {
             return None;
         }
-        let _ = at_offset(bytes, 2)?;
-        Some(ItemVariationStore { bytes })
+        let regions = at_offset(bytes, 2)?;
+        Some(ItemVariationStore { bytes, regions })
     }
 
     /// Returns the count that the list of regions has, or 0 if the list ends before it.
@@ -73,7 +89,7 @@ impl<'a> ItemVariationStore<'a> {
     /// </details>
     #[must_use]
     pub fn region_count(&self) -> u16 {
-        read_region_count(self.bytes).unwrap_or(0)
+        u16::read_at(self.regions, 2).unwrap_or(0)
     }
 
     /// Computes the scalars of all regions at these coordinates into the first places of `scalars`,
@@ -86,7 +102,7 @@ impl<'a> ItemVariationStore<'a> {
     /// ensures variant { IsSome result
     ///     ↔ (¬ HasRegion (regions_of self.now.bytes.now) (length scalars.old)) }
     /// ensures store { IfSome result (λ instance.
-    ///     instance.store.now ≡ self.now.bytes.now) }
+    ///     instance.store.bytes.now ≡ self.now.bytes.now) }
     /// ensures coordinates { IfSome result (λ instance.
     ///     instance.coordinates.now ≡ coordinates.now) }
     /// ```
@@ -98,29 +114,78 @@ impl<'a> ItemVariationStore<'a> {
         coordinates: &'a [F2Dot14],
         scalars: &'a mut [Fixed],
     ) -> Option<StoreInstance<'a>> {
-        let count = write_scalars(self.bytes, coordinates, scalars)?;
+        let count = region_scalars(self.regions, coordinates, scalars)?;
         let scalars: &'a [Fixed] = scalars;
-        let scalars = scalars.get(..count)?;
-        Some(StoreInstance { store: self.bytes, coordinates, scalars })
+        Some(StoreInstance { store: *self, coordinates, scalars: Some(scalars.get(..count)?) })
     }
-}
 
-// Reads the count that the list of regions of a store has.
-fn read_region_count(store: &[u8]) -> Option<u16> {
-    u16::read_at(at_offset(store, 2)?, 2)
-}
-
-// Writes the scalars of the regions of a store to the first places of `scalars`, and returns their
-// number. For `ItemVariationStore::at`, whose contract cannot name what its buffer becomes, because
-// the instance keeps it.
-fn write_scalars(store: &[u8], coordinates: &[F2Dot14], scalars: &mut [Fixed]) -> Option<usize> {
-    if u16::read_at(store, 0)? != 1 {
-        return None;
+    /// Varies an advance by a set at these coordinates, as [`StoreInstance::vary`] does, but without
+    /// a buffer.
+    ///
+    /// It walks all axes of the region of each column of the set, so the time is that of all axes
+    /// times all columns, whatever the number of coordinates. For more than one advance, and for an
+    /// untrusted font, use [`at`](ItemVariationStore::at).
+    ///
+    /// <details><summary>Contract</summary>
+    ///
+    /// ```text
+    /// ensures unvaried { IsNoVariation set.outer set.inner → result ≡ Some advance }
+    /// ensures value { ¬ IsNoVariation set.outer set.inner → MatchOption result
+    ///     ((¬ HasData self.now.bytes.now set.outer set.inner) ⊎ HasNoVaried
+    ///     (regions_of self.now.bytes.now) (subtable_of self.now.bytes.now set.outer)
+    ///     coordinates.now set.inner (ufword_number advance))
+    ///     (λ varied. HasData self.now.bytes.now set.outer set.inner
+    ///     × HasSet (regions_of self.now.bytes.now) (subtable_of self.now.bytes.now set.outer)
+    ///     set.inner
+    ///     × IsVaried (regions_of self.now.bytes.now) (subtable_of self.now.bytes.now set.outer)
+    ///     coordinates.now set.inner (ufword_number advance) (pos (ufword_number varied))) }
+    /// ensures near { ¬ IsNoVariation set.outer set.inner → IfSome result (λ varied.
+    ///     IsNearAdvance (regions_of self.now.bytes.now)
+    ///     (subtable_of self.now.bytes.now set.outer) coordinates.now set.inner
+    ///     (ufword_number advance) (pos (ufword_number varied))) }
+    /// ```
+    /// [Notation](crate::definitions): [`IsNoVariation`], [`HasData`], [`HasNoVaried`], [`regions_of`], [`subtable_of`], [`ufword_number`], [`HasSet`], [`IsVaried`], [`IsNearAdvance`]
+    /// </details>
+    #[must_use]
+    pub fn vary_advance(
+        &self,
+        advance: UfWord,
+        set: DeltaSetIndex,
+        coordinates: &'a [F2Dot14],
+    ) -> Option<UfWord> {
+        let instance = StoreInstance { store: *self, coordinates, scalars: None };
+        instance.vary(advance, set)
     }
-    region_scalars(at_offset(store, 2)?, coordinates, scalars)
+
+    // Finds the subtable of a set, and the index of the set in it.
+    fn data(&self, set: DeltaSetIndex) -> Option<(&'a [u8], u16)> {
+        let count = u16::read_at(self.bytes, 6)?;
+        if self.bytes.len() < 8 + 4 * usize::from(count) || set.outer >= u32::from(count) {
+            return None;
+        }
+        let subtable = at_offset(self.bytes, 8 + 4 * set.outer as usize)?;
+        Some((subtable, u16::try_from(set.inner).ok()?))
+    }
 }
 
 /// An item variation store at the coordinates of an instance, with the scalar of each region.
+///
+/// ```
+/// use font_variations_proved::{DeltaSetIndex, F2Dot14, F48Dot16, Fixed, ItemVariationStore, UfWord};
+/// // A region from 0 by 1 to 1, and a subtable of one set, whose delta is 40.
+/// let store = [
+///     0, 1, 0, 0, 0, 12, 0, 1, 0, 0, 0, 22, // The offsets of the list and the subtable.
+///     0, 1, 0, 1, 0, 0, 0x40, 0, 0x40, 0, //
+///     0, 1, 0, 1, 0, 1, 0, 0, 0, 40,
+/// ];
+/// let store = ItemVariationStore::new(&store).unwrap();
+/// let half = [F2Dot14::from_decimal("0.5").unwrap()];
+/// let mut scalars = vec![Fixed::ZERO; store.region_count().into()];
+/// let instance = store.at(&half, &mut scalars).unwrap();
+/// let set = DeltaSetIndex { outer: 0, inner: 0 };
+/// assert_eq!(instance.delta(set), Some(F48Dot16::from_i64(20)));
+/// assert_eq!(instance.vary(UfWord::new(500), set), Some(UfWord::new(520)));
+/// ```
 ///
 /// [`at`](ItemVariationStore::at) walks each axis of each region once. Its time is linear in the
 /// bytes of the store and the number of its regions, which is at most 32,767. After that a delta of
@@ -136,18 +201,34 @@ fn write_scalars(store: &[u8], coordinates: &[F2Dot14], scalars: &mut [Fixed]) -
 /// <details><summary>Contract</summary>
 ///
 /// ```text
-/// ghost at: { AreScalars (regions_of store.now) coordinates.now scalars.now },
+/// ghost at: { ForSome scalars (λ scalars.
+///     AreScalars (regions_of store.bytes.now) coordinates.now scalars.now) },
 /// ```
 /// [Notation](crate::definitions): [`AreScalars`], [`regions_of`]
 /// </details>
 #[derive(Clone, Copy, Debug)]
 pub struct StoreInstance<'a> {
-    store: &'a [u8],
+    store: ItemVariationStore<'a>,
     coordinates: &'a [F2Dot14],
-    scalars: &'a [Fixed],
+    // `None` if each scalar is computed where it is needed.
+    scalars: Option<&'a [Fixed]>,
 }
 
 impl<'a> StoreInstance<'a> {
+    /// Returns the store.
+    ///
+    /// <details><summary>Contract</summary>
+    ///
+    /// ```text
+    /// ensures { result.bytes.now ≡ self.now.store.bytes.now }
+    /// ```
+    /// [Notation](crate::definitions)
+    /// </details>
+    #[must_use]
+    pub fn store(&self) -> ItemVariationStore<'a> {
+        self.store
+    }
+
     /// Returns the coordinates.
     ///
     /// <details><summary>Contract</summary>
@@ -170,11 +251,11 @@ impl<'a> StoreInstance<'a> {
     /// <details><summary>Contract</summary>
     ///
     /// ```text
-    /// ensures variant { IsSome result ↔ HasRegion (regions_of self.now.store.now) region }
-    /// ensures value { IfSome result (λ scalar. IsRegionScalar (regions_of self.now.store.now)
+    /// ensures variant { IsSome result ↔ HasRegion (regions_of self.now.store.bytes.now) region }
+    /// ensures value { IfSome result (λ scalar. IsRegionScalar (regions_of self.now.store.bytes.now)
     ///     region self.now.coordinates.now (fixed_bits scalar)) }
     /// ensures near { IfSome result (λ scalar. IsNearRegionScalar
-    ///     (regions_of self.now.store.now) region self.now.coordinates.now (fixed_bits scalar)) }
+    ///     (regions_of self.now.store.bytes.now) region self.now.coordinates.now (fixed_bits scalar)) }
     /// ensures low { IfSome result (λ scalar. pos 0 ≤ℤ fixed_bits scalar) }
     /// ensures high { IfSome result (λ scalar. fixed_bits scalar ≤ℤ fixed_bits Fixed.ONE) }
     /// ```
@@ -182,25 +263,21 @@ impl<'a> StoreInstance<'a> {
     /// </details>
     #[must_use]
     pub fn scalar(&self, region: u16) -> Option<Fixed> {
-        self.scalars.get(usize::from(region)).copied()
+        match self.scalars {
+            Some(scalars) => scalars.get(usize::from(region)).copied(),
+            None => region_scalar(self.store.regions, region, self.coordinates),
+        }
     }
 
     // Returns the scalar of a column's region and the delta of the column.
-    fn term(
-        &self,
-        subtable: &[u8],
-        row: &[u8],
-        words: u16,
-        set: u16,
-        column: u16,
-    ) -> Option<(Fixed, i32)> {
-        let (region, delta) = column_in(subtable, row, words, set, column)?;
+    fn term(&self, row: &Row<'_>, column: u16) -> Option<(Fixed, i32)> {
+        let (region, delta) = row.column(column)?;
         Some((self.scalar(region)?, delta))
     }
 
     // Returns the exact sum of the deltas of a set, each times the scalar of its region.
     fn sum(&self, subtable: &[u8], set: u16) -> Option<F48Dot16> {
-        let (words, count) = (u16::read_at(subtable, 2)?, u16::read_at(subtable, 4)?);
+        let count = u16::read_at(subtable, 4)?;
         if set >= u16::read_at(subtable, 0)? {
             return None;
         }
@@ -208,9 +285,9 @@ impl<'a> StoreInstance<'a> {
         if count == 0 {
             return Some(sum);
         }
-        let row = row_of(subtable, set)?;
+        let row = Row::new(subtable, set)?;
         for column in 0..count {
-            let (scalar, delta) = self.term(subtable, row, words, set, column)?;
+            let (scalar, delta) = self.term(&row, column)?;
             sum += scalar.mul_i32(delta);
         }
         Some(sum)
@@ -225,13 +302,13 @@ impl<'a> StoreInstance<'a> {
     /// ensures unvaried { IsNoVariation set.outer set.inner
     ///     → IfSome result (λ sum. f48dot16_bits sum ≡ pos 0) }
     /// ensures variant { ¬ IsNoVariation set.outer set.inner → IsSome result
-    ///     ↔ (HasData self.now.store.now set.outer set.inner × HasSet (regions_of
-    ///     self.now.store.now) (subtable_of self.now.store.now set.outer) set.inner) }
+    ///     ↔ (HasData self.now.store.bytes.now set.outer set.inner × HasSet (regions_of
+    ///     self.now.store.bytes.now) (subtable_of self.now.store.bytes.now set.outer) set.inner) }
     /// ensures value { ¬ IsNoVariation set.outer set.inner → IfSome result (λ sum. IsSetSum
-    ///     (regions_of self.now.store.now) (subtable_of self.now.store.now set.outer)
+    ///     (regions_of self.now.store.bytes.now) (subtable_of self.now.store.bytes.now set.outer)
     ///     self.now.coordinates.now set.inner (f48dot16_bits sum)) }
     /// ensures near { ¬ IsNoVariation set.outer set.inner → IfSome result (λ sum. IsNearSetSum
-    ///     (regions_of self.now.store.now) (subtable_of self.now.store.now set.outer)
+    ///     (regions_of self.now.store.bytes.now) (subtable_of self.now.store.bytes.now set.outer)
     ///     self.now.coordinates.now set.inner (f48dot16_bits sum)) }
     /// ```
     /// [Notation](crate::definitions): [`IsNoVariation`], [`f48dot16_bits`], [`HasData`], [`HasSet`], [`regions_of`], [`subtable_of`], [`IsSetSum`], [`IsNearSetSum`]
@@ -241,7 +318,7 @@ impl<'a> StoreInstance<'a> {
         if set.is_no_variation() {
             return Some(F48Dot16::ZERO);
         }
-        let (_, subtable, inner) = data_of(self.store, set)?;
+        let (subtable, inner) = self.store.data(set)?;
         self.sum(subtable, inner)
     }
 
@@ -259,17 +336,17 @@ impl<'a> StoreInstance<'a> {
     /// ```text
     /// ensures unvaried { IsNoVariation set.outer set.inner → result ≡ Some advance }
     /// ensures value { ¬ IsNoVariation set.outer set.inner → MatchOption result
-    ///     ((¬ HasData self.now.store.now set.outer set.inner) ⊎ HasNoVaried
-    ///     (regions_of self.now.store.now) (subtable_of self.now.store.now set.outer)
+    ///     ((¬ HasData self.now.store.bytes.now set.outer set.inner) ⊎ HasNoVaried
+    ///     (regions_of self.now.store.bytes.now) (subtable_of self.now.store.bytes.now set.outer)
     ///     self.now.coordinates.now set.inner (ufword_number advance))
-    ///     (λ varied. HasData self.now.store.now set.outer set.inner
-    ///     × HasSet (regions_of self.now.store.now) (subtable_of self.now.store.now set.outer)
+    ///     (λ varied. HasData self.now.store.bytes.now set.outer set.inner
+    ///     × HasSet (regions_of self.now.store.bytes.now) (subtable_of self.now.store.bytes.now set.outer)
     ///     set.inner
-    ///     × IsVaried (regions_of self.now.store.now) (subtable_of self.now.store.now set.outer)
+    ///     × IsVaried (regions_of self.now.store.bytes.now) (subtable_of self.now.store.bytes.now set.outer)
     ///     self.now.coordinates.now set.inner (ufword_number advance)
     ///     (pos (ufword_number varied))) }
     /// ensures near { ¬ IsNoVariation set.outer set.inner → IfSome result (λ varied.
-    ///     IsNearAdvance (regions_of self.now.store.now) (subtable_of self.now.store.now set.outer)
+    ///     IsNearAdvance (regions_of self.now.store.bytes.now) (subtable_of self.now.store.bytes.now set.outer)
     ///     self.now.coordinates.now set.inner (ufword_number advance)
     ///     (pos (ufword_number varied))) }
     /// ```
@@ -280,7 +357,7 @@ impl<'a> StoreInstance<'a> {
         if set.is_no_variation() {
             return Some(advance);
         }
-        let (_, subtable, inner) = data_of(self.store, set)?;
+        let (subtable, inner) = self.store.data(set)?;
         self.vary_set(advance, subtable, inner)
     }
 }

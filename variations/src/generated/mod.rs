@@ -13,6 +13,8 @@ mod advances;
 mod delta_sets;
 mod evaluator;
 mod instances;
+#[doc(hidden)]
+pub mod laws;
 mod maps;
 mod regions;
 

@@ -5,11 +5,22 @@
 #[cfg(doc)]
 use crate::definitions::font_fixed::{F2Dot14_antt::f2dot14_bits, Fixed_antt::fixed_bits};
 #[cfg(doc)]
-use crate::definitions::variations::Variations_antt::{AreScalars, HasRegion, IsAxisScalar};
+use crate::definitions::variations::Variations_antt::IsAxisScalar;
 
 use font_types_proved::{F2Dot14, Fixed, Scalar};
 
 /// The extent of a region along one axis.
+///
+/// ```
+/// use font_variations_proved::{F2Dot14, RegionAxisCoordinates};
+/// let axis = RegionAxisCoordinates {
+///     start_coord: F2Dot14::ZERO,
+///     peak_coord: F2Dot14::ONE,
+///     end_coord: F2Dot14::ONE,
+/// };
+/// let quarter = F2Dot14::from_decimal("0.25").unwrap();
+/// assert_eq!(axis.scalar(quarter).to_string(), "0.25");
+/// ```
 ///
 /// The source and its contracts: `crates/variations/src/regions.rt`.
 #[derive(Clone, Copy, PartialEq, Eq, Hash, Debug)]
@@ -132,7 +143,7 @@ fn find_region(regions: &[u8], region: u16) -> Option<&[u8]> {
 // list does not have the region. Axes beyond the coordinates are at their default.
 //
 // The product is rounded once for each axis, in the order of the axes, half up.
-fn region_scalar(regions: &[u8], region: u16, coordinates: &[F2Dot14]) -> Option<Fixed> {
+pub(crate) fn region_scalar(regions: &[u8], region: u16, coordinates: &[F2Dot14]) -> Option<Fixed> {
     let region = find_region(regions, region)?;
     let axes = u16::read_at(regions, 0)?;
     Some(product_of_scalars(region, axes, coordinates))
@@ -146,23 +157,10 @@ fn has_more(regions: &[u8], scalars: usize) -> bool {
     }
 }
 
-/// Writes the scalar of each region of a list, in order, and returns how many regions it has, those
-/// that it ends before left out. If there are more of them than `scalars`, returns `None`, and
-/// writes nothing.
-///
-/// <details><summary>Contract</summary>
-///
-/// ```text
-/// ensures len { length scalars.new ≡ length scalars.old }
-/// ensures variant { IsSome result ↔ (¬ HasRegion regions.now (length scalars.old)) }
-/// ensures kept { IfNone result (scalars.new ≡ scalars.old) }
-/// ensures within { IfSome result (λ count. count ≤ length scalars.old) }
-/// ensures value { IfSome result (λ count.
-///     AreScalars regions.now coordinates.now (take count scalars.new)) }
-/// ensures rest { IfSome result (λ count. drop count scalars.new ≡ drop count scalars.old) }
-/// ```
-/// [Notation](crate::definitions): [`HasRegion`], [`AreScalars`]
-/// </details>
+// Writes the scalar of each region of a list, in order, and returns how many regions it has, those
+// that it ends before left out. If there are more of them than `scalars`, returns `None`, and
+// writes nothing. The contract of `ItemVariationStore::at` cannot name what its buffer becomes,
+// because the instance keeps it.
 pub(crate) fn region_scalars(
     regions: &[u8],
     coordinates: &[F2Dot14],

@@ -1,5 +1,6 @@
 //! Tables `HVAR`: stores, sets and offsets.
 
+use crate::laws::varied_alike;
 use crate::{DeltaSetIndex, Hvar, ItemVariationStore};
 use font_types::{F2Dot14, Fixed, GlyphId16, Scalar, UfWord};
 use std::test::Fail;
@@ -84,6 +85,7 @@ fn advances_by_sets(rt: HostRuntime) -> Result<(), Fail> {
     let (coordinates, mut scalars) = ([F2Dot14::from_bits(0x2000)], [Fixed::ZERO]);
     assert!(rt; store.region_count() == 1);
     let instance = store.at(&coordinates, &mut scalars).ok_or("one region")?;
+    assert!(rt; instance.store() == store && instance.coordinates().len() == 1);
     for &(outer, inner, varied) in &[
         (0, 0, Some(520)),
         (0, 1, Some(480)),
@@ -92,8 +94,13 @@ fn advances_by_sets(rt: HostRuntime) -> Result<(), Fail> {
         (0, 0x1_0000, None),
         (0xFFFF, 0xFFFF, Some(500)),
     ] {
-        let found = instance.vary(advance, DeltaSetIndex { outer, inner });
+        let set = DeltaSetIndex { outer, inner };
+        let found = instance.vary(advance, set);
         assert!(rt; found == varied.map(UfWord::new), "{outer} {inner}");
+        let alone = store.vary_advance(advance, set, &coordinates);
+        assert!(rt; alone == found, "{outer} {inner} without a buffer");
+        let (one, other) = varied_alike(&instance, advance, set);
+        assert!(rt; [one, other] == [found, found], "{outer} {inner} alike");
     }
     for &(number, offset, is_store) in &[
         // Another format, no list of regions, a subtable less, one more, and none at its offset.

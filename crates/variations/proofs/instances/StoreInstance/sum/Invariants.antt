@@ -4,7 +4,7 @@ use Rattle.variations.specs.{Advances.regions_of, Variations.IsSumThrough, Varia
 use Rattle.variations.proofs.instances.StoreInstance.sum.Given as goal
 
 abbrev pub invariant-loop-column : goal.invariant-loop-column
-invariant-loop-column l = IsSumThrough (regions_of l.self.store.now) l.subtable l.self.coordinates.now l.set l.column
+invariant-loop-column l = IsSumThrough (regions_of l.self.store.bytes.now) l.subtable l.self.coordinates.now l.set l.column
     (f48dot16_bits l.sum)
     × (unsigned_abs (f48dot16_bits l.sum) ≤ l.column * 2 ^ 47)
-    × ((k : ℕ) → k < l.column → HasTerm (regions_of l.self.store.now) l.subtable l.set k)
+    × ((k : ℕ) → k < l.column → HasTerm (regions_of l.self.store.bytes.now) l.subtable l.set k)
