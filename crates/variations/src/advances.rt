@@ -19,6 +19,7 @@ pub(crate) fn at_offset(table: &[u8], place: usize) -> Option<&[u8]>
 }
 
 // Reads the delta set of a glyph: in a table without a map, the set whose index is the glyph.
+#[inline]
 fn glyph_set(hvar: &[u8], glyph: u16) -> Option<DeltaSetIndex>
     ensures variant { IsSome result ↔ HasGlyphSet hvar.now glyph }
     ensures outer { IfSome result (λ set. set.outer ≡ outer_index hvar.now glyph) }
@@ -78,6 +79,7 @@ impl<'a> Hvar<'a> {
     /// Returns the delta set of a glyph's advance, which the store may not have, or `None` if the
     /// map of glyphs is not there or has no entry.
     #[must_use]
+    #[inline]
     pub fn advance_set(&self, glyph: GlyphId16) -> Option<DeltaSetIndex>
         ensures variant { IsSome result ↔ HasGlyphSet self.now.bytes.now (glyph16_number glyph) }
         ensures outer { IfSome result (λ set.

@@ -101,6 +101,7 @@ const MAP_ENTRY_SIZE_MASK: u8 = 0x30;
 // Reads the delta set of an index by a map of format 0 or 1; the last entry is that of all later
 // indices. Returns `None` for another format or a map of no entries, or if the map ends before the
 // entry does.
+#[inline]
 pub(crate) fn read_delta_set_index(map: &[u8], index: u32) -> Option<DeltaSetIndex>
     ensures variant { IsSome result ↔ HasEntry map.now index }
     ensures outer { IfSome result (λ set.

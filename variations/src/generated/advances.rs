@@ -19,6 +19,7 @@ pub(crate) fn at_offset(table: &[u8], place: usize) -> Option<&[u8]> {
 }
 
 // Reads the delta set of a glyph: in a table without a map, the set whose index is the glyph.
+#[inline]
 fn glyph_set(hvar: &[u8], glyph: u16) -> Option<DeltaSetIndex> {
     let (outer, inner) = (0, u32::from(glyph));
     if u32::read_at(hvar, 8)? == 0 {
@@ -107,6 +108,7 @@ impl<'a> Hvar<'a> {
     /// [Notation](crate::definitions): [`HasGlyphSet`], [`glyph16_number`], [`outer_index`], [`inner_index`]
     /// </details>
     #[must_use]
+    #[inline]
     pub fn advance_set(&self, glyph: GlyphId16) -> Option<DeltaSetIndex> {
         glyph_set(self.bytes, glyph.to_u16())
     }
