@@ -10,8 +10,9 @@
 
 pub mod font;
 
-use font::{Font, advance_of};
-use font_types_proved::{ByteRecords, F2Dot14, F48Dot16, Fixed, GlyphId16, Scalar, Tag, UfWord};
+use font::{Font, LongMetric, advance_of};
+use font_types_proved::{ByteRecords, F2Dot14, F48Dot16, Fixed, GlyphId16, Scalar, ScalarArray};
+use font_types_proved::{Tag, UfWord};
 use font_variations_proved::{Avar, DeltaSetIndex, Fvar, Hvar, ItemVariationStore};
 use font_variations_proved::{SegmentMap, SegmentMaps, Setting, VariationAxisRecord};
 
@@ -70,50 +71,52 @@ pub fn normalized(
     Ok(map.final_coordinate(coordinate))
 }
 
-/// The advance of a glyph at these coordinates, rounded; that of `hmtx` if the font is not variable
-/// or has no variations.
-pub fn advance(
-    font: &Font<'_>,
-    glyph: GlyphId16,
-    coordinates: &[F2Dot14],
-) -> Result<UfWord, String> {
-    table(font, b"hhea", of_version(1))?;
-    if glyph.to_u16() >= font.glyph_count().ok_or("no `maxp`")? {
-        return Err("no such glyph".into());
-    }
-    let base = font.advance(glyph).ok_or("hmtx ends early")?;
-    if font.table(b"fvar").is_none() {
-        return Ok(base);
-    }
-    match table(font, b"HVAR", Hvar::new)? {
-        Some(hvar) => varied(font, &hvar, coordinates, [glyph].into_iter())
-            .and_then(|advances| advances[0])
-            .ok_or_else(|| format!("glyph {}: no advance by `HVAR`", glyph.to_u16())),
-        None if font.table(b"gvar").is_some() => Err("`gvar` without `HVAR`".into()),
-        None => Ok(base),
-    }
+/// The tables that advances are in, each found once.
+pub struct Advances<'a> {
+    glyph_count: u16,
+    metrics: ScalarArray<'a, LongMetric>,
+    hvar: Option<Hvar<'a>>,
 }
 
-/// Returns the advances of all glyphs at these coordinates, by `HVAR`: none for a glyph whose set
-/// is not there or whose advance is out of range.
-pub fn all_advances(font: &Font<'_>, coordinates: &[F2Dot14]) -> Option<Vec<Option<UfWord>>> {
-    let hvar = table(font, b"HVAR", Hvar::new).ok()??;
-    varied(font, &hvar, coordinates, (0..font.glyph_count()?).map(GlyphId16::new))
-}
+impl<'a> Advances<'a> {
+    /// Finds the tables. A font without `fvar` has no variations.
+    pub fn new(font: &Font<'a>) -> Result<Self, String> {
+        table(font, b"hhea", of_version(1))?;
+        let glyph_count = font.glyph_count().ok_or("no `maxp`")?;
+        let metrics = font.long_metrics().ok_or("hmtx ends early")?;
+        let is_variable = font.table(b"fvar").is_some();
+        let hvar = if is_variable { table(font, b"HVAR", Hvar::new)? } else { None };
+        if is_variable && hvar.is_none() && font.table(b"gvar").is_some() {
+            return Err("`gvar` without `HVAR`".into());
+        }
+        Ok(Self { glyph_count, metrics, hvar })
+    }
 
-/// Returns the advances of these glyphs. The scalar of each region is computed once, and `hmtx` is
-/// found once.
-fn varied(
-    font: &Font<'_>,
-    hvar: &Hvar<'_>,
-    coordinates: &[F2Dot14],
-    glyphs: impl Iterator<Item = GlyphId16>,
-) -> Option<Vec<Option<UfWord>>> {
-    let mut scalars = vec![Fixed::ZERO; hvar.store().region_count().into()];
-    let instance = hvar.store().at(coordinates, &mut scalars)?;
-    let metrics = font.long_metrics();
-    let vary = |glyph| instance.vary(advance_of(metrics?, glyph)?, hvar.advance_set(glyph)?);
-    Some(glyphs.map(vary).collect())
+    /// The advance of a glyph at these coordinates, rounded; that of `hmtx` if the font has no
+    /// variations of advances.
+    pub fn of(&self, glyph: GlyphId16, coordinates: &[F2Dot14]) -> Result<UfWord, String> {
+        if glyph.to_u16() >= self.glyph_count {
+            return Err("no such glyph".into());
+        }
+        let advance = advance_of(self.metrics, glyph).ok_or("hmtx ends early")?;
+        let Some(hvar) = self.hvar else {
+            return Ok(advance);
+        };
+        let set = hvar.advance_set(glyph);
+        set.and_then(|set| hvar.store().vary_advance(advance, set, coordinates))
+            .ok_or_else(|| format!("glyph {}: no advance by `HVAR`", glyph.to_u16()))
+    }
+
+    /// The advances of all glyphs at these coordinates, by `HVAR`: none for a glyph whose set is not
+    /// there or whose advance is out of range. The scalar of each region is computed once.
+    pub fn all(&self, coordinates: &[F2Dot14]) -> Option<Vec<Option<UfWord>>> {
+        let (hvar, store) = (self.hvar?, self.hvar?.store());
+        let mut scalars = vec![Fixed::ZERO; store.region_count().into()];
+        let instance = store.at(coordinates, &mut scalars)?;
+        let vary =
+            |glyph| instance.vary(advance_of(self.metrics, glyph)?, hvar.advance_set(glyph)?);
+        Some((0..self.glyph_count).map(GlyphId16::new).map(vary).collect())
+    }
 }
 
 /// The deltas of the font's metrics at these coordinates, by `MVAR`: of `xhgt`, the height of an x,
@@ -163,18 +166,18 @@ fn main() -> Result<(), Box<dyn std::error::Error>> {
         println!("{tag}: {value}, from {min} to {max}");
         coordinates.push(normalized(&mut maps, axis, value)?);
     }
+    let advances = Advances::new(&font)?;
     for character in text.chars() {
         let glyph = glyph(&font, character)?;
-        println!("{character}: {}", advance(&font, glyph, &coordinates)?);
+        println!("{character}: {}", advances.of(glyph, &coordinates)?);
     }
     for glyph in glyphs.iter().flat_map(|word| word.parse()) {
-        let advance = advance(&font, GlyphId16::new(glyph), &coordinates)?;
+        let advance = advances.of(GlyphId16::new(glyph), &coordinates)?;
         println!("glyph {glyph}: {advance}");
     }
     let mut in_range = true;
     if more.contains(&"all".into()) {
-        let advances =
-            all_advances(&font, &coordinates).ok_or("no advances of all glyphs by `HVAR`")?;
+        let advances = advances.all(&coordinates).ok_or("no advances of all glyphs by `HVAR`")?;
         for (glyph, advance) in advances.iter().enumerate() {
             match advance {
                 Some(advance) => println!("glyph {glyph}: {advance}"),

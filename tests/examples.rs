@@ -15,7 +15,7 @@ use font_variations_proved::{Avar, DeltaSetIndex, DeltaSetIndexMap, Hvar};
 use font_variations_proved::{ItemVariationStore, SegmentMap, Setting};
 use fonts::{MAP, MAPS, at_the_limits, font, font_of, fvar, hvar, hvar_of_two_axes};
 use fonts::{long_axes, of_five_axes, two_axes, variations, words};
-use instance::{advance, all_advances, axes, metrics, normalized, segment_maps};
+use instance::{Advances, axes, metrics, normalized, segment_maps};
 use std::error::Error;
 use std::fs;
 use std::path::{Path, PathBuf};
@@ -215,18 +215,18 @@ fn advances_along_two_axes() {
     ];
     for (map, row) in MAPS.into_iter().zip(rows) {
         let bytes = font_of([(b"HVAR", hvar_of_two_axes(map)), (b"fvar", two_axes())]);
-        let font = instance::font::Font::new(&bytes).unwrap();
-        for (glyph, advances) in (0..).zip(row) {
-            for (at, wanted) in settings.into_iter().zip(advances) {
+        let advances = Advances::new(&instance::font::Font::new(&bytes).unwrap()).unwrap();
+        for (glyph, wanted) in (0..).zip(row) {
+            for (at, wanted) in settings.into_iter().zip(wanted) {
                 let wanted = (wanted != 0).then_some(UfWord::new(wanted));
-                let found = advance(&font, GlyphId16::new(glyph), &at.map(F2Dot14::from_bits));
+                let found = advances.of(GlyphId16::new(glyph), &at.map(F2Dot14::from_bits));
                 assert_eq!(found.ok(), wanted, "{map:?}, glyph {glyph} at {at:?}");
             }
         }
         for at in settings.map(|at| at.map(F2Dot14::from_bits)) {
             let glyphs = (0..48).map(GlyphId16::new);
-            let apart = glyphs.map(|glyph| advance(&font, glyph, &at).ok()).collect();
-            assert_eq!(all_advances(&font, &at), Some(apart), "{map:?} at {at:?}");
+            let apart = glyphs.map(|glyph| advances.of(glyph, &at).ok()).collect();
+            assert_eq!(advances.all(&at), Some(apart), "{map:?} at {at:?}");
         }
     }
 }
