@@ -1,6 +1,6 @@
 #!/usr/bin/env python3
-"""Writes a version in every place that has it: `python3 tools/version.py 0.9.1`. A test of tools
-compares the places with `Cargo.toml`."""
+"""Writes the library's version in every place that has it: `python3 tools/version.py 0.9.1`. A test
+of tools compares the places with `Cargo.toml`."""
 
 import pathlib
 import re
@@ -9,14 +9,14 @@ import sys
 ROOT = pathlib.Path(__file__).resolve().parents[1]
 
 # Each place: a file, and a text of it with the version, its first two numbers, what a program is
-# linked with for (0.n, and from 1.0 on the first number), or its hexadecimal digits. In the files
-# of cargo, every `version` is this one.
-OF_CARGO = [
-    "Cargo.toml c/Cargo.toml compare/Cargo.toml variations/Cargo.toml",
-    "Cargo.lock c/Cargo.lock variations/Cargo.lock",
-]
+# linked with for (0.n, and from 1.0 on the first number), or its hexadecimal digits. In these files
+# of cargo, every `version` is this one. The package of variations has a version of its own, which
+# stays below 1.0 when the library's does not: only its dependency is a place.
+OF_CARGO = "Cargo.toml c/Cargo.toml compare/Cargo.toml c/Cargo.lock".split()
 PLACES = [
-    *((path, '\nversion = "{full}"\n') for path in " ".join(OF_CARGO).split()),
+    *((path, '\nversion = "{full}"\n') for path in OF_CARGO),
+    ("Cargo.lock", 'name = "font-types-proved"\nversion = "{full}"\n'),
+    ("variations/Cargo.lock", 'name = "font-types-proved"\nversion = "{full}"\n'),
     ("variations/Cargo.toml", '{{ path = "..", version = "{full}" }}'),
     ("c/font_types.map", "FONT_TYPES_{linked} {{"),
     ("c/include/font_types.h", 'FTY_VERSION "{full}"\n'),
@@ -50,7 +50,7 @@ def wrong() -> list[str]:
     for path, form in PLACES:
         text, right = (ROOT / path).read_text(), shown(form, version)
         others = set(re.findall(r'^version = "(.*)"$', text, re.MULTILINE)) - {version}
-        if right not in text or others:
+        if right not in text or path in OF_CARGO and others:
             found.append(f"{path}: {right.strip()}")
     return found
 
@@ -65,4 +65,4 @@ def write(version: str) -> None:
 if __name__ == "__main__":
     (version,) = sys.argv[1:]
     write(version)
-    sys.exit("\n".join(wrong()))
+    sys.exit("\n".join(wrong()) or None)

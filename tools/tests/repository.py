@@ -135,6 +135,7 @@ class Pages(unittest.TestCase):
             pathlib.Path(path).stem: words(text(path))
             for name in ("callers", "variations")
             for path in of(f"crates/{name}/src/", ".rt")
+            if not path.endswith("/laws.rt")
         }
         # The documentation of each type names its file.
         pages = [path for path in of("", ".md") if path != "CHANGELOG.md"]
@@ -304,6 +305,10 @@ class Package(unittest.TestCase):
         tomls = "Cargo.toml c/Cargo.toml compare/Cargo.toml variations/Cargo.toml".split()
         for path in tomls:
             self.assertIn("\npublish = false\n", text(path), path)
+        # The package of variations has a version of its own, below 1.0.
+        (own,) = re.findall(r'^version = "(0\.\d+\.\d+)"$', text("variations/Cargo.toml"), re.M)
+        for path in ("Cargo.lock", "variations/Cargo.lock"):
+            self.assertIn(f'name = "font-variations-proved"\nversion = "{own}"\n', text(path), path)
 
     def test_names_on_its_first_page(self) -> None:
         page, exports = text("src/lib.rs"), text("src/generated/font_types/mod.rs")
