@@ -40,7 +40,7 @@ int main(void) {
                      && fty_put_zeros_to_4(&rest, store) == FTY_OK;
     status = fty_write_i16(fty_span_from(store, 15), -1);        /* out of bounds */
     /* end */
-    fty_view written = {store.bytes, store.length - rest.length};
+    fty_view written = fty_written(store, rest);
     printf("%s: %d %d %d %d\n", fty_status_text(status), is_written, (int)written.length,
            (int)fty_u32(written, 2), (int)fty_u16(fty_at_offset32(written, 2), 0));
     return 0;

@@ -18,8 +18,8 @@
  *     rounding      fty_checked_round_{i16,i32,i64}  fty_f26dot6_{floor,ceil,round}
  *                   fty_fixed_{floor,ceil,round,round_away}
  *     conversions   fty_fixed_to_{i32,f26dot6,f2dot14}  fty_f26dot6_to_i32  fty_fixed_from_i32
- *                   fty_f48dot16_{to_i64,checked_to_fixed}  fty_f2dot30_to_{fixed,f2dot14}
- *     arithmetic    fty_fixed_{add,sub,mul}  fty_f26dot6_mul  fty_mul_div_i64
+ *                   fty_f48dot16_{to_i64,checked_to_fixed}
+ *     arithmetic    fty_{add,sub}_i32  fty_{fixed,f26dot6}_mul  fty_mul_div_i64
  *     others        fty_delta_set_length  fty_status_text  FTY_TAG
  *
  * Calls of the library: link with libfont_types.
@@ -28,7 +28,7 @@
  *     matrices      fty_matrix_{product,image,vector,images}
  *     deltas        fty_delta_{sum,set_sum}  fty_checked_add_delta_{i16,u16}
  *     decimals      fty_parse_{i16,i32,i64}  fty_{format,format_padded}
- *                   fty_{fixed,f2dot14,f26dot6}_{parse,format,format_padded}
+ *                   fty_{fixed,f2dot14,f26dot6}_{parse,format}
  *     tags          fty_tag_{parse,validate,format}
  *     version       fty_version
  *
@@ -966,18 +966,6 @@ FTY_API_INLINE int64_t fty_f48dot16_to_i64(int64_t bits) FTY_API_NOEXCEPT {
     return FTY_API_AS(int64_t, nearest ^ sign) - FTY_API_AS(int64_t, sign);
 }
 
-/** 2.30 to the nearest 16.16. */
-FTY_API_INLINE int32_t fty_f2dot30_to_fixed(int32_t bits) FTY_API_NOEXCEPT {
-    /* From the least value on, so that nothing wraps. */
-    const uint32_t halves = (FTY_API_AS(uint32_t, bits) ^ UINT32_C(0x80000000)) >> 13;
-    return FTY_API_AS(int32_t, (halves + 1u) >> 1) - 0x20000;
-}
-
-/** 2.30 to the nearest 2.14; wraps. */
-FTY_API_INLINE int16_t fty_f2dot30_to_f2dot14(int32_t bits) FTY_API_NOEXCEPT {
-    return FTY_API_AS(int16_t, fty_fixed_to_i32(bits));
-}
-
 /* ---- products and quotients ---- */
 
 /** @cond */
@@ -1029,12 +1017,12 @@ FTY_API_PURE int32_t fty_f26dot6_div(int32_t x, int32_t y) FTY_API_NOEXCEPT;
  *      which is undefined behavior in C ---- */
 
 /** x + y, of 32-bit raw values of one format; wraps. */
-FTY_API_INLINE int32_t fty_fixed_add(int32_t x, int32_t y) FTY_API_NOEXCEPT {
+FTY_API_INLINE int32_t fty_add_i32(int32_t x, int32_t y) FTY_API_NOEXCEPT {
     return FTY_API_AS(int32_t, FTY_API_AS(uint32_t, x) + FTY_API_AS(uint32_t, y));
 }
 
 /** x - y, of 32-bit raw values of one format; wraps. */
-FTY_API_INLINE int32_t fty_fixed_sub(int32_t x, int32_t y) FTY_API_NOEXCEPT {
+FTY_API_INLINE int32_t fty_sub_i32(int32_t x, int32_t y) FTY_API_NOEXCEPT {
     return FTY_API_AS(int32_t, FTY_API_AS(uint32_t, x) - FTY_API_AS(uint32_t, y));
 }
 
@@ -1273,12 +1261,6 @@ FTY_API_RUN fty_status fty_fixed_format(
     return fty_format(bits, FTY_FIXED, out, length);
 }
 
-/** fty_format_padded of 16.16. */
-FTY_API_RUN fty_status fty_fixed_format_padded(
-    int32_t bits, const fty_pad *pad, fty_buffer out, size_t *length) FTY_API_NOEXCEPT {
-    return fty_format_padded(bits, FTY_FIXED, pad, out, length);
-}
-
 /** fty_parse_i16 of 2.14. */
 FTY_API_RUN fty_status fty_f2dot14_parse(
     const char *text, size_t length, int16_t *bits) FTY_API_NOEXCEPT {
@@ -1291,12 +1273,6 @@ FTY_API_RUN fty_status fty_f2dot14_format(
     return fty_format(bits, FTY_F2DOT14, out, length);
 }
 
-/** fty_format_padded of 2.14. */
-FTY_API_RUN fty_status fty_f2dot14_format_padded(
-    int16_t bits, const fty_pad *pad, fty_buffer out, size_t *length) FTY_API_NOEXCEPT {
-    return fty_format_padded(bits, FTY_F2DOT14, pad, out, length);
-}
-
 /** fty_parse_i32 of 26.6. */
 FTY_API_RUN fty_status fty_f26dot6_parse(
     const char *text, size_t length, int32_t *bits) FTY_API_NOEXCEPT {
@@ -1307,12 +1283,6 @@ FTY_API_RUN fty_status fty_f26dot6_parse(
 FTY_API_RUN fty_status fty_f26dot6_format(
     int32_t bits, fty_buffer out, size_t *length) FTY_API_NOEXCEPT {
     return fty_format(bits, FTY_F26DOT6, out, length);
-}
-
-/** fty_format_padded of 26.6. */
-FTY_API_RUN fty_status fty_f26dot6_format_padded(
-    int32_t bits, const fty_pad *pad, fty_buffer out, size_t *length) FTY_API_NOEXCEPT {
-    return fty_format_padded(bits, FTY_F26DOT6, pad, out, length);
 }
 
 /* ---- tags, as numbers with the big-endian bytes of the tag ---- */

@@ -165,8 +165,8 @@ static void values_of_opentype(void) {
           && fty_written(last, three).bytes == NULL && fty_written(gsub, other).bytes == NULL);
     uint16_t kept = KEPT;
     STATE(fty_read_u16(subtable, 17, &kept) == FTY_OUT_OF_BOUNDS && kept == KEPT);
-    STATE(fty_fixed_from_i32(-1000) == -65536000 && fty_fixed_sub(1000, 400) == 600
-          && fty_fixed_add(INT32_MAX, 1) == INT32_MIN);
+    STATE(fty_fixed_from_i32(-1000) == -65536000 && fty_sub_i32(1000, 400) == 600
+          && fty_add_i32(INT32_MAX, 1) == INT32_MIN);
     int16_t of_16 = KEPT;
     int32_t of_32 = KEPT;
     int64_t of_64 = KEPT;
@@ -198,9 +198,6 @@ static void values_of_opentype(void) {
     STATE(fty_f26dot6_to_i32(-32) == 0 && fty_f26dot6_to_i32(INT32_MAX) == -33554432);
     STATE(fty_f48dot16_to_i64(-98304) == -1
           && fty_f48dot16_to_i64(INT64_MAX) == INT64_C(-140737488355328));
-    STATE(fty_f2dot30_to_fixed(0x26666666) == 39322 && fty_f2dot30_to_fixed(INT32_MAX) == 131072);
-    STATE(fty_f2dot30_to_f2dot14(0x26666666) == 9830
-          && fty_f2dot30_to_f2dot14(2147475456) == -32768);
     /* A part of no bytes, or an absent one, is written to no room; but not past the end. */
     const fty_view none = fty_first(fty_from(subtable, sizeof bytes), 0);
     const fty_span room = {written, 15};

@@ -26,7 +26,7 @@ listed() {
     eval "printf '%s\n' $(sed -n "/^ \* $1/,/^ \* $2/p" include/font_types.h |
         grep -o 'fty_[a-z0-9_{},]*' | tr '\n' ' ')" | sort -u
 }
-calling=$(printf '%s\n' fty_{fixed,f2dot14,f26dot6}_{parse,format,format_padded} \
+calling=$(printf '%s\n' fty_{fixed,f2dot14,f26dot6}_{parse,format} \
     fty_{format,format_padded,tag_format,delta_sum,delta_set_sum} | sort)
 public=$(grep -v '^fty_abi_' <<<"$declared")
 is "$(listed 'In C, in' 'Calls of')" "$(comm -23 <(echo "$inline") <(echo "$calling"))" \
@@ -104,7 +104,7 @@ c++ -std=c++11 -w -Iinclude -fsyntax-only "$work/calls.cpp"
 # With -Werror alone, compilers refuse each exchange, and no call as it is. Of one type are two
 # integers only where they are of one kind, and where the result is the same in either order.
 of_two=$(grep -E '((u?int[0-9]+|size)_t) [a-z_]+,.* \1 [a-z_]+[,)]' <<<"$functions" | sed 's/(.*//')
-of_one_kind=$(printf '%s\n' fty_items fty_mul_div_i64 fty_fixed_{add,sub,mul,div,mul_div} \
+of_one_kind=$(printf '%s\n' fty_items fty_mul_div_i64 fty_{add,sub}_i32 fty_fixed_{mul,div,mul_div} \
     fty_f26dot6_{mul,div} | sort)
 is "$(grep -v '^fty_abi_' <<<"$of_two" | sort)" "$of_one_kind" 'takes two integers' 'of one kind'
 given=$(grep ', ' <<<"$typed" | grep -v ' fty_abi_')

@@ -157,9 +157,6 @@ static const struct {
         check(#FORMAT, 1, bits, BITS);                                                         \
         check(#FORMAT, 2, fty_##FORMAT##_format(BITS, to(BUFFER), &length), FTY_OK);           \
         check(#FORMAT, 3, length == 3 && memcmp(out, "1.5", length) == 0, 1);                  \
-        check(#FORMAT, 4, fty_##FORMAT##_format_padded(BITS, &named, to(BUFFER), &length),     \
-              FTY_OK);                                                                         \
-        check(#FORMAT, 5, length == 6 && memcmp(out, "+1.5**", length) == 0, 1);               \
         memset(out, KEPT, sizeof out);                                                         \
     } while (0)
 

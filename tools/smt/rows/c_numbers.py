@@ -12,8 +12,8 @@ from values import constant
 for name, rule in {
     "fixed_mul": lambda p, x, y: wrap(32, near(p.times(x, y), 16)),
     "f26dot6_mul": lambda p, x, y: wrap(32, near(p.times(x, y), 6)),
-    "fixed_add": lambda p, x, y: wrap(32, S(x) + S(y)),
-    "fixed_sub": lambda p, x, y: wrap(32, S(x) - S(y)),
+    "add_i32": lambda p, x, y: wrap(32, S(x) + S(y)),
+    "sub_i32": lambda p, x, y: wrap(32, S(x) - S(y)),
 }.items():
     row(name, "x: i32, y: i32", "i32", f"fty_{name}(x, y)", rule)
 
@@ -53,8 +53,7 @@ row("fixed_round_away", "x: i32", "i32", "fty_fixed_round_away(x)",
 for name, w, k, to, out in (
     ("fixed_to_i32", 32, 16, 16, 32), ("fixed_to_f26dot6", 32, 10, 22, 32),
     ("fixed_to_f2dot14", 32, 2, 16, 16), ("f26dot6_to_i32", 32, 6, 26, 32),
-    ("f48dot16_to_i64", 64, 16, 48, 64), ("f2dot30_to_fixed", 32, 14, 32, 32),
-    ("f2dot30_to_f2dot14", 32, 16, 16, 16),
+    ("f48dot16_to_i64", 64, 16, 48, 64),
 ):
     row(name, f"x: i{w}", f"i{out}", f"fty_{name}(x)",
         lambda p, x, k=k, to=to, out=out: wrap(to, up(S(x), k), out))
@@ -166,9 +165,6 @@ for T, w, f in (("fixed", 32, 16), ("f2dot14", 16, 14), ("f26dot6", 32, 6)):
         lambda p, n: z3.Extract(63, 32, n) ^ z3.Extract(31, 0, n))
     written(f"{T}_format", f"x: i{w}", f"fty_{T}_format(x, out, &length)", 1,
             lambda x, f=f: 3 * S(x) + 5 * f)
-    written(f"{T}_format_padded", f"x: i{w}, m: size", "({ const fty_pad pad = FTY_PAD_INIT(m);"
-            f" fty_{T}_format_padded(x, &pad, out, &length); }})", 2,
-            lambda x, m, f=f: 3 * S(x) + 5 * f + 9 * U(m))
 written("format", "x: i64, f: u32", "fty_format(x, FTY_FRACTION(f), out, &length)", 1,
         lambda x, f: 3 * S(x) + 5 * U(f))
 written("format_padded", "x: i64, f: u32, m: size", "({ const fty_pad pad = FTY_PAD_INIT(m);"
