@@ -32,10 +32,12 @@
  *     tags          fty_tag_{parse,validate,format}
  *     version       fty_version
  *
- * Exports that five of these functions call, for languages that do not read this header: they
- * take each array as a pointer and a length. So are fty_fixed_mul and fty_f26dot6_mul.
+ * The exports, for languages that do not read this header. Of two names for one thing, the one
+ * with "abi" is the export: it takes each array as a pointer and a length.
  *
- *     by pointers   fty_abi_{delta_sum,delta_set_sum,format,format_padded,tag_format}
+ *     fty_{fixed,f26dot6}_{mul,div}  fty_fixed_mul_div  fty_matrix_{product,image,vector,images}
+ *     fty_abi_{delta_sum,delta_set_sum,format,format_padded,tag_format}  fty_parse_{i16,i32,i64}
+ *     fty_checked_add_delta_{i16,u16}  fty_tag_{parse,validate}  fty_version
  *
  * Each function that the library exports has a contract that is proved; its comment states it.
  * What the functions in C return and write, and that they touch nothing else, is proved for every
@@ -50,18 +52,35 @@
  * of its type, or as many as the comment says. "Half up" rounds ties toward positive infinity;
  * "half away from zero" to the greater magnitude.
  *
+ * Names obey these rules, and c/tests/names.awk refuses a declaration that breaks one:
+ *
+ * - A name begins with what the function is of: a format, a matrix, delta, tag, span or status. If
+ *   it begins with none of these, it is of bytes, of numbers in any format, or of the library.
+ * - A function of a format takes and gives raw values in the type of the format, except what a name
+ *   with "to" or "from" converts to or from. The format "fixed" is 16.16.
+ * - A type at the end of a name, such as i32, is the type of a number that the function takes or
+ *   gives.
+ * - Each integer type of OpenType has all functions of fields, but u8 and i8 have no "peek" and
+ *   "poke". No other type has any. ("uint" is all 1 to 4 bytes of a part.)
+ * - "read" leaves a view where it is, and "take" moves it past what is taken. "write" leaves a span
+ *   where it is, and "put" moves it past what is written.
+ * - "parse" is from text, and "format" is to text.
+ * - "checked" means, as in Rust, that the function fails where a sum, a rounding or a conversion of
+ *   this name wraps.
+ * - A function that can fail returns a fty_status, and stores its result where its last argument
+ *   points, or in its span. Any other returns its result, but poke and fty_matrix_images store it.
+ * - A "length" counts bytes, a "count" elements, a "size" the bytes of one element, and "room" the
+ *   bytes of a buffer. An "offset" counts bytes from the start, and an "index" elements.
+ * - A name with "api" or "API" is private to this header.
+ *
  * No function of the first two lists takes two integers of different kinds, which a compiler would
  * take in any order: an offset is the only integer of its call, fraction bits are a fty_fraction,
  * and an array beside another integer is one value with its length, a fty_view, fty_span,
- * fty_buffer or fty_numbers. A text, or points, beside none are a pointer and a length. A "length"
- * counts bytes, a "count" elements, a "size" the bytes of one, and "room" those of a buffer.
+ * fty_buffer or fty_numbers. A text, or points, beside none are a pointer and a length.
  *
- * A function that can fail returns a fty_status, and stores its result where its last argument
- * points; any other returns it. "checked" means, as in Rust, that it fails where a sum, a rounding
- * or a conversion of this name wraps. What writes text stores the text in a fty_buffer, and its
- * length there; a fty_put or fty_write function stores bytes in its span. If two errors apply, the
- * status is the first that the comment lists. If a function fails, it leaves all memory unchanged,
- * except that fty_tag_validate stores the index of the invalid byte.
+ * What writes text stores the text in a fty_buffer, and its length where the last argument points.
+ * If two errors apply, the status is the first that the comment lists. If a function fails, it
+ * leaves all memory unchanged, except that fty_tag_validate stores the index of the invalid byte.
  *
  * Pointers must be valid for the length that goes with them (1 for a single value),
  * aligned, and not null, even if the call fails. A pointer whose length is 0 may be
@@ -1186,7 +1205,7 @@ typedef enum fty_align FTY_API_OF_32_BITS {
     FTY_RIGHT = 2   /**< fill on the left */
 } fty_align;
 
-/** How to pad a decimal. No version 1 adds a member. */
+/** How to pad a decimal. No version 1 adds a member: more would be a new type, with new calls. */
 typedef struct fty_pad {
     size_t width;  /**< the minimum width in bytes; 0 means none */
     uint8_t fill;  /**< the fill byte, below 0x80; 0 means a space */

@@ -31,10 +31,9 @@ calling=$(printf '%s\n' fty_{fixed,f2dot14,f26dot6}_{parse,format} \
 public=$(grep -v '^fty_abi_' <<<"$declared")
 is "$(listed 'In C, in' 'Calls of')" "$(comm -23 <(echo "$inline") <(echo "$calling"))" \
     'at the head, "In C"' "$declares"
-is "$(listed 'Calls of' 'Exports')" "$(sort <<<"$public"$'\n'"$calling")" \
+is "$(listed 'Calls of' 'The exports')" "$(sort <<<"$public"$'\n'"$calling")" \
     'at the head, "Calls"' "$declares"
-is "$(listed 'Exports' 'Each function' | grep '^fty_abi_')" "$(grep '^fty_abi_' <<<"$declared")" \
-    'at the head, "Exports"' "$declares"
+is "$(listed 'The exports' 'Each function')" "$exports" 'at the head, "The exports"' "$declares"
 # Their types are those of the Rust that is compiled. An enum is returned as 32 bits.
 in_c=$(grep -E ";\$|($(paste -sd '|' <<<"$both"))\(" <<<"$typed" | sed -E '
     s/ noexcept *[;{]//; s/\(void\)/()/; s/ *\*[a-z_]+/*/g; s/ [a-z_]+([,)])/\1/g
@@ -56,6 +55,8 @@ recorded() {
 }
 record=$(recorded | sed -E 's/ +/ /g; s/ ?([(){},;*=]) ?/\1/g; s/\*/ */g; s/ $//' | LC_ALL=C sort)
 is "$record" "$(<tests/declarations.txt)" "$declares" 'in declarations.txt'
+# Each obeys the rules of names at the head.
+is "$(awk -f tests/names.awk <<<"$record")" '' 'breaks a rule' 'at the head'
 
 # C++14 evaluates all that neither copies nor calls.
 constants=$(c++ -std=c++14 -x c++ -E -P include/font_types.h | tr '\n' ' ' |
@@ -68,8 +69,6 @@ is "$constants" "$(comm -23 <(echo "$inline") <(echo "$run_only"))" constexpr 'i
 # is ignored.
 is "$(grep -o '\bfty_[a-z0-9_]*(' <<<"$text" | grep -v '^fty_api_' | names)" \
     "$(sort -u <<<"$declared"$'\n'"$inline")" "$declares" noexcept
-# What is checked can fail.
-fails grep -v '^fty_status ' <(grep '_checked_' <<<"$typed")
 # Calls of functions, each by a function of the same parameters: as they are or, wrong, with each
 # two arguments of different types exchanged.
 calls() {
