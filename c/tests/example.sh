@@ -37,5 +37,5 @@ if command -v cmake >/dev/null; then
     fails "${with_cmake[@]}" -B "$work/cmake/other"
     grep 'font_types-config.cmake, version: ' "$work/log" >/dev/null
 else
-    echo "left out: the reader that cmake builds, which needs cmake"
+    echo "left out: what cmake finds and builds, which needs cmake"
 fi

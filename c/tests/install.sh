@@ -30,8 +30,8 @@ PREFIX="$odd" INCLUDEDIR="$odd/inc" make -s install
 is "$(sed 2q "$odd/lib/pkgconfig/font_types.pc")" "prefix=$odd"$'\nlibdir=${prefix}/lib'
 eval "flags=($(PKG_CONFIG_PATH="$odd/lib/pkgconfig" pkg-config --cflags --libs font_types))"
 is "${flags[0]} ${flags[1]}" "-I$odd/inc -L$odd/lib"
-has "$(<"$odd/lib/cmake/font_types/font_types-config.cmake")" " [[$odd/lib/libfont_types.so]]"
-has "$(<"$odd/lib/cmake/font_types/font_types-config.cmake")" " [[$odd/inc]])"
+has "$(<"$odd/lib/cmake/font_types/font_types-config.cmake")" ' [[../../../inc]] '
+has "$(<"$staged/../cmake/font_types/font_types-config.cmake")" " [[$work/inc]] "
 sed -i.kept 's/^version = .*/version = "9.8.7"/' Cargo.toml
 LIBDIR='/a&b|c' make -s install DESTDIR="$work/next" PREFIX=/usr
 mv Cargo.toml.kept Cargo.toml
@@ -51,6 +51,33 @@ if command -v cmake >/dev/null; then
             echo 'message("[${PACKAGE_VERSION_COMPATIBLE}]")'
         } >"$work/asked.cmake"
         is "$(cmake -P "$work/asked.cmake" 2>&1)" "[$answer]" "$asked of 9.8.7"
+    done
+fi
+
+# A tree that is moved after its install, from where no folder is left: cmake finds it, by a link
+# too, and links with either library.
+if command -v cmake >/dev/null; then
+    make -s install DESTDIR="$work/package" PREFIX=/opt/types
+    mv "$work/package/opt/types" "$work/moved tree"
+    ln -s "moved tree/lib" "$work/linked"
+    mkdir "$work/both"
+    cat >"$work/both/CMakeLists.txt" <<'CMAKE'
+cmake_minimum_required(VERSION 3.10)
+project(both C)
+find_package(font_types CONFIG REQUIRED)
+add_executable(shared ../c/examples/example.c)
+target_link_libraries(shared PRIVATE font_types::font_types)
+add_executable(static ../c/examples/example.c)
+target_link_libraries(static PRIVATE font_types::font_types_static)
+CMAKE
+    for found in "CMAKE_PREFIX_PATH=$work/moved tree" \
+        "font_types_DIR=$work/linked/cmake/font_types"; do
+        rm -rf "$work/both/build"
+        "${empty[@]}" cmake "-D$found" -S "$work/both" -B "$work/both/build" >"$work/log"
+        cmake --build "$work/both/build" >"$work/log"
+        has "$(ldd "$work/both/build/shared")" " $work/moved tree/lib/libfont_types.so"
+        fails grep libfont_types <(ldd "$work/both/build/static")
+        for library in shared static; do is "$("$work/both/build/$library")" "$shown"; done
     done
 fi
 
