@@ -289,7 +289,7 @@ FTY_API_STATIC void fty_poke_i64(uint8_t *at, int64_t value) FTY_API_NOEXCEPT {
  * Bytes of a font, of a table or of a record: {bytes, length}. A view that is absent has null
  * bytes and the length 0, as {NULL, 0} has, whatever is meant by it. Its fields are missing, and
  * its parts have null bytes, so that a reader can look at the last view alone. Offsets, counts and
- * sizes may be any, as a font has them: no function of views overflows, or reads beyond a view.
+ * sizes may be any that a font has: no function of views overflows, or reads beyond a view.
  */
 typedef struct fty_view {
     const uint8_t *bytes; /**< the first byte; null if the view is absent */
@@ -320,7 +320,7 @@ FTY_API_INLINE fty_view fty_first(fty_view view, size_t length) FTY_API_NOEXCEPT
 
 /**
  * The first `count` items of `size` bytes, or `size` items of `count` bytes; absent unless all of
- * them are there. A `size` that is no constant, as one that the font has, costs a division.
+ * them are there. A `size` that is no constant, such as one in the font, costs a division.
  */
 FTY_API_INLINE fty_view fty_items(fty_view view, size_t count, size_t size) FTY_API_NOEXCEPT {
     if (size != 0 && count > view.length / size)
@@ -331,7 +331,7 @@ FTY_API_INLINE fty_view fty_items(fty_view view, size_t count, size_t size) FTY_
 
 /**
  * The bytes from an offset to the end of the view; absent if the offset is past the end. From 0,
- * the whole view, also where 0 means null: fty_follow is for such an offset.
+ * the whole view: where 0 means null, call fty_follow.
  */
 FTY_API_INLINE fty_view fty_from(fty_view view, size_t offset) FTY_API_NOEXCEPT {
     if (offset > view.length)
@@ -342,7 +342,7 @@ FTY_API_INLINE fty_view fty_from(fty_view view, size_t offset) FTY_API_NOEXCEPT 
     return view;
 }
 
-/** The same of an offset of a font, where 0 means null: absent then too. */
+/** The bytes from an offset to the end of the view; absent if the offset is 0, or past the end. */
 FTY_API_INLINE fty_view fty_follow(fty_view view, size_t offset) FTY_API_NOEXCEPT {
     return offset == 0 ? fty_absent() : fty_from(view, offset);
 }
@@ -608,14 +608,14 @@ FTY_API_INLINE fty_status fty_take_i64(fty_view *rest, int64_t *value) FTY_API_N
     return FTY_OK;
 }
 
-/* ---- writing: a span is room for bytes, as a view is bytes that are there. fty_put_u16 and its
+/* ---- writing: a span is room for bytes, and a view is bytes that are there. fty_put_u16 and its
  *      like write at its start and move it on; fty_write_u16 and its like leave it where it is, for
  *      a field that is written later, fty_write_u16(fty_span_from(table, 4), value). Join calls by
  *      && or ||: the operands of | run in any order ---- */
 
 /**
- * Room for bytes of a font: {bytes, length}, as a fty_view is, but not constant. Copy a span before
- * you move it: the copy is the table, and what is moved is the rest of it.
+ * Room for bytes of a font: {bytes, length}, like a fty_view, but not constant. Copy a span before
+ * you move it: the copy is the table, and the span that is moved is the rest of the table.
  */
 typedef struct fty_span {
     uint8_t *bytes; /**< the first byte; null if the span is absent */
@@ -664,8 +664,8 @@ FTY_API_INLINE fty_span fty_span_take(fty_span *rest, size_t length) FTY_API_NOE
 }
 
 /**
- * What is written of a table, of which the span is the rest: its length is where the rest begins.
- * Absent unless the span is the end of the table, as the rest of it is.
+ * What is written of a table so far: its length is the offset at which the rest begins. Absent
+ * unless the rest is the end of the table.
  */
 FTY_API_INLINE fty_view fty_written(fty_span table, fty_span rest) FTY_API_NOEXCEPT {
     fty_view part = fty_absent();
@@ -747,8 +747,8 @@ FTY_API_RUN fty_status fty_put_bytes(fty_span *rest, fty_view view) FTY_API_NOEX
 }
 
 /**
- * Writes up to three zeros, so that a multiple of four bytes of a table is written, of which the
- * span is the rest. Fails by FTY_OUT_OF_BOUNDS unless it is, and they fit; and the span stays.
+ * Writes up to three zeros, so that a multiple of four bytes of the table is written. Fails by
+ * FTY_OUT_OF_BOUNDS unless the rest is the end of the table and the zeros fit, and the span stays.
  */
 FTY_API_INLINE fty_status fty_put_zeros_to_4(fty_span *rest, fty_span table) FTY_API_NOEXCEPT {
     const size_t count = (rest->length - table.length) & 3;
@@ -836,10 +836,10 @@ FTY_API_INLINE fty_status fty_api_offset(
 /** @endcond */
 
 /**
- * Writes at an offset of a table where a part of it begins, in 16 bits: then fty_at_offset16 of the
- * table returns the part. The part has to be the end of the table, as the rest of it is. Fails by
- * FTY_OUT_OF_BOUNDS unless it is and the field is in the table; by FTY_OUT_OF_RANGE if the part is
- * the whole table, for 0 means null, or begins too far from its start.
+ * Writes at an offset of a table where a part of the table begins, in 16 bits: fty_at_offset16 of
+ * the table then returns the part. Fails by FTY_OUT_OF_BOUNDS unless the part is the end of the
+ * table, such as the rest, and the field is in the table; by FTY_OUT_OF_RANGE if the part is the
+ * whole table, because 0 means null, or begins too far from the start of the table.
  */
 FTY_API_INLINE fty_status fty_write_offset16(
     fty_span table, size_t offset, fty_span part) FTY_API_NOEXCEPT {
@@ -861,7 +861,7 @@ FTY_API_INLINE fty_status fty_write_offset32(
 /* ---- rounding to integers, half up; the result is a raw value too ---- */
 
 /**
- * Rounds a 16-bit raw value to that of the nearest integer, half up: of 1.5, that of 2.
+ * Rounds a 16-bit raw value to the raw value of the nearest integer, half up: 1.5 to 2.
  * Fails by FTY_BAD_FRACTION, FTY_OUT_OF_RANGE.
  */
 FTY_API_INLINE fty_status fty_checked_round_i16(
@@ -877,7 +877,7 @@ FTY_API_INLINE fty_status fty_checked_round_i16(
 }
 
 /**
- * Rounds a 32-bit raw value to that of the nearest integer, half up: of 1.5, that of 2.
+ * Rounds a 32-bit raw value to the raw value of the nearest integer, half up: 1.5 to 2.
  * Fails by FTY_BAD_FRACTION, FTY_OUT_OF_RANGE.
  */
 FTY_API_INLINE fty_status fty_checked_round_i32(
@@ -893,7 +893,7 @@ FTY_API_INLINE fty_status fty_checked_round_i32(
 }
 
 /**
- * Rounds a 64-bit raw value to that of the nearest integer, half up: of 1.5, that of 2.
+ * Rounds a 64-bit raw value to the raw value of the nearest integer, half up: 1.5 to 2.
  * Fails by FTY_BAD_FRACTION, FTY_OUT_OF_RANGE.
  */
 FTY_API_INLINE fty_status fty_checked_round_i64(
@@ -945,10 +945,10 @@ FTY_API_INLINE int32_t fty_f26dot6_round(int32_t x) FTY_API_NOEXCEPT {
     return FTY_API_AS(int32_t, FTY_API_AS(uint32_t, x) + 32u) & -64;
 }
 
-/* ---- conversions to fewer fraction bits, half up; those to as many or more are C, as `bits * 4`
- *      from 2.14 to 16.16, `units * INT64_C(65536)` from font units to 48.16, `(int32_t)bits`
- *      from 48.16 to 16.16, which wraps, fty_f48dot16_checked_to_fixed and fty_fixed_from_i32
- *      ---- */
+/* ---- conversions to fewer fraction bits, half up. Those to as many or more are C, such as
+ *      `bits * 4` from 2.14 to 16.16, `units * INT64_C(65536)` from font units to 48.16, and
+ *      `(int32_t)bits` from 48.16 to 16.16, which wraps; or fty_f48dot16_checked_to_fixed, which
+ *      does not, and fty_fixed_from_i32 ---- */
 
 /** @cond */
 /* A number of two's complement, by its bits and the weight of its sign. */
@@ -1045,7 +1045,7 @@ FTY_API_INLINE int32_t fty_sub_i32(int32_t x, int32_t y) FTY_API_NOEXCEPT {
     return FTY_API_AS(int32_t, FTY_API_AS(uint32_t, x) - FTY_API_AS(uint32_t, y));
 }
 
-/** An integer, as font units, to 16.16, x * 65536; wraps unless x is from -32768 to 32767. */
+/** An integer, such as font units, to 16.16, x * 65536; wraps unless x is from -32768 to 32767. */
 FTY_API_INLINE int32_t fty_fixed_from_i32(int32_t x) FTY_API_NOEXCEPT {
     return FTY_API_AS(int32_t, FTY_API_AS(uint32_t, x) * UINT32_C(65536));
 }
@@ -1162,7 +1162,7 @@ FTY_API_INLINE size_t fty_delta_set_length(
 FTY_API_MUST_USE fty_status fty_checked_add_delta_i16(
     int64_t delta, int16_t *units) FTY_API_NOEXCEPT;
 
-/** The same for unsigned font units, as advances are. */
+/** The same for unsigned font units, such as advances. */
 FTY_API_MUST_USE fty_status fty_checked_add_delta_u16(
     int64_t delta, uint16_t *units) FTY_API_NOEXCEPT;
 
