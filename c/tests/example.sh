@@ -1,5 +1,6 @@
-# The examples: README.md shows one, and cmake builds it.
-is "$(lines c 'In C')" "$(sed -n '/begin/,/end/s/^    //p' examples/example.c | grep -v '^/\*')"
+# The examples: README.md shows them, cmake builds one, and Python runs one.
+is "$(sed -n '/^```c$/,/^```$/p' README.md | sed '/^```/d')" \
+    "$(sed -n '/begin/,/end/s/^    //p' examples/example.c | grep -v '^/\*')"
 cc -std=c99 $strict examples/example.c "$archive" -o "$work/example"
 is "$("$work/example")" "$shown"
 c++ -std=c++11 $strict examples/example.cpp "$archive" -o "$work/example"
@@ -20,6 +21,9 @@ CPP
 } >"$work/buffer.cpp"
 c++ -std=c++11 $strict "$work/buffer.cpp" -o "$work/buffer"
 "$work/buffer"
+if command -v python3 >/dev/null; then
+    is "$(LD_LIBRARY_PATH=$root/lib python3 -c "$(lines python 'From other languages')")" 1.5
+fi
 if command -v cmake >/dev/null; then
     mkdir "$work/cmake"
     {
