@@ -52,7 +52,7 @@
  * of its type, or as many as the comment says. "Half up" rounds ties toward positive infinity;
  * "half away from zero" to the greater magnitude.
  *
- * Names obey these rules, and c/tests/names.awk refuses a declaration that breaks one:
+ * Names obey these rules, with which c/tests/names.awk compares names and types:
  *
  * - A name begins with what the function is of: a format, a matrix, delta, tag, span or status. If
  *   it begins with none of these, it is of bytes, of numbers in any format, or of the library.
