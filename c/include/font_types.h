@@ -55,7 +55,7 @@
  * Names obey these rules, with which c/tests/names.awk compares names and types:
  *
  * - A name begins with what the function is of: a format, a matrix, delta, tag, span or status. If
- *   it begins with none of these, it is of bytes, of numbers in any format, or of the library.
+ *   it begins with none of these, it is of bytes, of any numbers, or of the library.
  * - A function of a format takes and gives raw values in the type of the format, except what a name
  *   with "to" or "from" converts to or from. The format "fixed" is 16.16.
  * - A type at the end of a name, such as i32, is the type of a number that the function takes or
