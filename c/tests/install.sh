@@ -59,7 +59,7 @@ fi
 if command -v cmake >/dev/null; then
     make -s install DESTDIR="$work/package" PREFIX=/opt/types
     mv "$work/package/opt/types" "$work/moved tree"
-    ln -s "moved tree/lib" "$work/linked"
+    ln -s "moved tree/lib" "$work/linked tree"
     mkdir "$work/both"
     cat >"$work/both/CMakeLists.txt" <<'CMAKE'
 cmake_minimum_required(VERSION 3.10)
@@ -71,7 +71,7 @@ add_executable(static ../c/examples/example.c)
 target_link_libraries(static PRIVATE font_types::font_types_static)
 CMAKE
     for found in "CMAKE_PREFIX_PATH=$work/moved tree" \
-        "font_types_DIR=$work/linked/cmake/font_types"; do
+        "font_types_DIR=$work/linked tree/cmake/font_types"; do
         rm -rf "$work/both/build"
         "${empty[@]}" cmake "-D$found" -S "$work/both" -B "$work/both/build" >"$work/log"
         cmake --build "$work/both/build" >"$work/log"
