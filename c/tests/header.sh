@@ -56,7 +56,8 @@ recorded() {
 record=$(recorded | sed -E 's/ +/ /g; s/ ?([(){},;*=]) ?/\1/g; s/\*/ */g; s/ $//' | LC_ALL=C sort)
 is "$record" "$(<tests/declarations.txt)" "$declares" 'in declarations.txt'
 # Each obeys the rules of names at the head.
-is "$(awk -f tests/names.awk <<<"$record")" '' 'breaks a rule' 'at the head'
+broken=$(awk -f tests/names.awk <<<"$record")
+is "$broken" '' 'breaks a rule' 'at the head'
 
 # C++14 evaluates all that neither copies nor calls.
 constants=$(c++ -std=c++14 -x c++ -E -P include/font_types.h | tr '\n' ' ' |
