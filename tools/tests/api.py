@@ -1,5 +1,5 @@
-"""What users can name in both packages is that of `tests/api.txt`, so that a change which may break
-their code is one of that file. After an intended change: `python3 tools/tests/api.py`."""
+"""What users can name in both packages is that of `tests/api.txt`, with what their types store, so
+that a change of it is one of that file. After an intended change: `python3 tools/tests/api.py`."""
 
 import re
 import sys
@@ -13,8 +13,10 @@ sys.path.append(str(ROOT / "tools/mir"))
 from declared import words  # noqa: E402
 
 LIST = ROOT / "tests/api.txt"
-NOT_SHOWN = re.compile(r"# \[ (?!derive|must_use|doc \( hidden|macro_export|track_caller)\w.*?\] ")
-SHOWN = re.compile(r"(?:# \[ .*?\] )*(?:pub (?!\()|impl\b|# \[ macro_export)")
+NOT_SHOWN = re.compile(
+    r"# ! \[ .*?\] |# \[ (?:allow|diagnostic|doc(?! \( hidden)|inline|path)\b.*?\] "
+)
+SHOWN = re.compile(r"(?:# \[ .*?\] )*(?:pub (?!\()|impl\b|# \[ (?:macro_export|cfg (?!\( doc)))")
 
 
 def heads(text: str) -> Iterator[tuple[str, ...]]:
@@ -24,7 +26,9 @@ def heads(text: str) -> Iterator[tuple[str, ...]]:
     head, brackets = "", 0
     for word in words(text, "crate").split():
         is_use = re.match(r"(?:# \[ .*?\] )*(?:pub )?use ", head)
-        ends = ",;" if re.search(r"\b(?:struct|enum) ", "".join(within)) else ";"
+        # In a field, `<` is no operator.
+        is_field = re.search(r"\b(?:struct|enum) ", "".join(within))
+        ends, opens, closes = (",;", "([<", ")]>") if is_field else (";", "([", ")]")
         if word in "{}" and not is_use or word in ends and not brackets:
             yield *within, head + "{ " * (word == "{")
             if word == "{":
@@ -33,7 +37,7 @@ def heads(text: str) -> Iterator[tuple[str, ...]]:
             within = within[: len(depths)]
             head = ""
         else:
-            brackets += (word in "([") - (word in ")]")
+            brackets += (word in opens) - (word in closes and not head.endswith("- "))
             head += f"{word} "
 
 
@@ -43,6 +47,10 @@ def is_public(within: list[str], head: str) -> bool:
         return False
     if "pub trait " in above or any("pub enum " in it for it in within):
         return True
+    if re.search(r"pub struct |pub const .* = \w+ $", above):
+        return True
+    if "macro_export" in "".join(within[:1]) and len(within) < 3:
+        return True
     of_impl = re.search(r"\bimpl\b.* for ", above) and re.match("(?:const|type) ", head)
     return bool(SHOWN.match(head) or of_impl)
 
@@ -50,7 +58,7 @@ def is_public(within: list[str], head: str) -> bool:
 def written(head: str) -> str:
     """Returns words with the spaces that Rust is written with."""
     head = re.sub(r" ?:: ?", "::", head.replace("- >", "->"))
-    head = re.sub(r",(?= [)\]])", "", head)
+    head = re.sub(r"(?<!\( ),(?= [)\]])", "", head)
     head = re.sub(r"(?<=[(\[<&'#$]) | (?=[,:)\]?])| (?<!-)(?=>)", "", head)
     return re.sub(r"(?<=[\w>]) (?=[(<!](?!-))|,$", "", head)
 
@@ -66,6 +74,9 @@ def listed() -> str:
             if is_public(within, head):
                 # Of a trait, what has a default.
                 is_default = "pub trait " in "".join(within[-1:]) and head.endswith("{ ")
+                if "pub struct " in "".join(within[-1:]):
+                    # What is private decides who can write the struct, and where it can be sent.
+                    head = re.sub(r"^\w+ :(?! :)", "_ :", head)
                 shown = written(head.removesuffix("{ ").strip())
                 lines.append(" " * 4 * len(within) + shown + " { .. }" * is_default)
     return "\n".join(lines[1:]) + "\n"
