@@ -1,12 +1,12 @@
 """Proves functions of the Rust in `src` for every argument, by rustc and the solver Z3.
 
-`python3 tools/smt [--checked] [--only PATTERN] [--jobs N] [--goals FOLDER] [--tree FOLDER]`
+`python3 tools/smt [--checked] [--only PATTERN] [--jobs N] [--tree FOLDER] [--solver COMMAND]`
 
 `--checked` compiles with checks of overflow and debug assertions, and so shows that none of them
 fails. Without it, the build has neither, like a release build. `--exhaustive` adds the rows of each
-number of fraction bits. `--mutants` tries wrong Rust. `--goals` keeps each goal of a rule that is
-not decided at once as a file of SMT-LIB. `--solver COMMAND` asks another solver, which reads such
-a file, of all that Z3 refutes or simplifies, and fails if it says that it can be met."""
+number of fraction bits. `--mutants` tries wrong Rust. `--solver` asks another solver, which reads
+SMT-LIB, of all that Z3 refutes, and of each term whether it is what Z3 simplified it to. It fails
+if that solver finds values, and names the rows and lemmas of which it decides something not."""
 
 import argparse
 import ctypes
@@ -40,7 +40,7 @@ import table
 from build import Refusal, build, version
 from ir import Module
 from proof import fault_of
-from state import ANSWERS, LIMIT, SECOND, ask, use_second
+from state import ANSWERS, LIMIT, SECOND, ask, undecided, use_second
 
 # What the processes share: the options, the IR, the library, and the rows in groups.
 SHARED: tuple[argparse.Namespace, Module, ctypes.CDLL, list[list[table.Row]]]
@@ -62,10 +62,11 @@ def prove(index: int) -> list[Proved]:
     found: list[Proved] = []
     for row in groups[index]:
         ANSWERS.clear()
-        began, proof = time.process_time(), table.proof_of(module, row, library, options.goals)
+        began, proof = time.process_time(), table.proof_of(module, row, library)
         reason = found[0].reason if found else fault_of(proof, options.turns)
         seconds = time.process_time() - began
         shown = f"{row.name:40} {proof.goals:3} goals {seconds:7.2f} s  {reason or 'proved'}"
+        shown += undecided()
         found.append(Proved(shown, reason, proof.agreed, seconds, ANSWERS.copy()))
     return found
 
@@ -98,7 +99,6 @@ def main() -> int:
     parser.add_argument("--checked", action="store_true")
     parser.add_argument("--exhaustive", action="store_true")
     parser.add_argument("--jobs", type=int, default=os.cpu_count())
-    parser.add_argument("--goals", type=Path)
     parser.add_argument("--mutants", action="store_true")
     parser.add_argument("--solver", type=shlex.split, default=[])
     parser.add_argument("--turns", type=int, default=3)
@@ -120,7 +120,10 @@ def main() -> int:
         if solver.check() != z3.unsat:
             print(f"the lemma {name} is not proved")
             return 1
+        before = undecided()
         ask([z3.Not(lemma)])
+        if undecided() != before:
+            print(f"{SECOND[0]} does not decide the lemma {name}")
     answers = ANSWERS.copy()
     try:
         rustc = version(options.tree)

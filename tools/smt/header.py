@@ -26,7 +26,7 @@ import z3
 from c_program import CODE, ROWS, constants, program
 from ir import Module
 from proof import Proof, Unknown, fault_of
-from state import ANSWERS, SECOND, use_second
+from state import ANSWERS, SECOND, undecided, use_second
 
 CLANG = "clang-22"
 FLAGS = """-std=gnu11 -O2 -fno-vectorize -fno-slp-vectorize -fno-unroll-loops -fno-strict-aliasing
@@ -81,10 +81,11 @@ def prove(folder: Path, build: str, only: str) -> int:
             library = ctypes.CDLL(f"{room}/rows.so")
     faults, chosen = 0, [it for it in ROWS if re.search(only, it.name)]
     for case in chosen:
-        start, proof = time.process_time(), Row(module, case, library)
+        start, proof, before = time.process_time(), Row(module, case, library), undecided()
         fault = fault_of(proof)
         faults += fault != ""
         shown = f"{proof.goals:3} goals {time.process_time() - start:7.2f} s  {fault or 'proved'}"
+        shown += undecided() if undecided() != before else ""
         print(f"{case.name:40} {shown}", flush=True)
     seconds = f"{time.process_time() - began:.0f} s of processor"
     count = f"{len(chosen) - faults} of {len(chosen)} rows proved in the {build} build"

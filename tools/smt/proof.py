@@ -2,8 +2,6 @@
 
 import ctypes
 import random
-import re
-from pathlib import Path
 from typing import Any, Protocol
 
 import z3
@@ -70,11 +68,9 @@ def fault_of(proof: Provable, turns: int = 3) -> str:
 
 
 class Proof:
-    def __init__(
-        self, module: Module, case: Case, library: ctypes.CDLL | None, goals: Path | None = None
-    ) -> None:
+    def __init__(self, module: Module, case: Case, library: ctypes.CDLL | None) -> None:
         """Without a library, the code is of another processor, and no argument is run by it."""
-        self.module, self.case, self.library, self.folder = module, case, library, goals
+        self.module, self.case, self.library = module, case, library
         self.goals = self.asked = self.agreed = 0
         # No number of a rule has as many bits.
         has_64 = case.has("i64", "u64", "size", "room", "bytes")
@@ -156,9 +152,6 @@ class Proof:
         if self.arithmetic.facts and self.solver(goal, [], QUICK).check() == z3.unsat:
             return ask(conditions)
         solver = self.solver(goal, self.arithmetic.facts)
-        if self.folder:
-            name = re.sub(r"\W+", "_", self.case.name) + f"_{self.goals}.smt2"
-            (self.folder / name).write_text("(set-logic QF_UFBV)\n" + solver.to_smt2())
         answer = solver.check()
         if answer == z3.unsat:
             return ask([*conditions, *self.arithmetic.facts])

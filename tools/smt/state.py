@@ -22,8 +22,10 @@ if TYPE_CHECKING:
 LIMIT, QUICK = 500_000_000, 1_000_000
 # The command of another solver, or nothing, and how often it gave each answer.
 SECOND, ANSWERS = list[str](), Counter[str]()
-# For the other solver: that a term differs from what Z3 made of it, of bits and of integers.
-SIMPLIFY, MADE = z3.simplify, (dict[tuple[int, int], BoolRef](), dict[tuple[int, int], BoolRef]())
+# For the other solver: that a term differs from what Z3 made of it, of bits and of integers, and of
+# how many terms it is asked at once.
+SIMPLIFY, TERMS = z3.simplify, 16
+MADE = (dict[tuple[int, int], BoolRef](), dict[tuple[int, int], BoolRef]())
 
 
 class Disagreement(Exception):
@@ -57,9 +59,16 @@ def simplify(term: Any) -> Any:
 def ask_simplified() -> None:
     """Asks of all that was simplified. A name may be of bits in one term and of integers in another."""
     for made in MADE:
-        if made:
-            ask([z3.Or([*made.values()])])
+        terms = [*made.values()]
+        for start in range(0, len(terms), TERMS):
+            ask([z3.Or(terms[start : start + TERMS])])
         made.clear()
+
+
+def undecided() -> str:
+    """Says how often the other solver gave no answer."""
+    count = ANSWERS.total() - ANSWERS["unsat"]
+    return f", {count} not decided by {SECOND[0]}" if count else ""
 
 
 def use_second(command: list[str]) -> None:

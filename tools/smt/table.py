@@ -2,7 +2,6 @@
 
 import ctypes
 from collections.abc import Sequence
-from pathlib import Path
 
 import parsing
 import printing
@@ -40,11 +39,9 @@ def key(module: Module, row: Row) -> tuple[int, int, tuple[int, int] | None, boo
     return id(module.functions[f"@{row.symbol}"]), row.f, row.range, row.is_literal
 
 
-def proof_of(
-    module: Module, row: Row, library: ctypes.CDLL, goals: Path | None = None
-) -> Proof | Parsing | Printing:
+def proof_of(module: Module, row: Row, library: ctypes.CDLL) -> Proof | Parsing | Printing:
     if isinstance(row, parsing.Row):
         return Parsing(module, row, library)
     if isinstance(row, printing.Row):
         return Printing(module, row, library)
-    return Proof(module, row, library, goals)
+    return Proof(module, row, library)
