@@ -123,7 +123,7 @@ def main() -> int:
         before = undecided()
         ask([z3.Not(lemma)])
         if undecided() != before:
-            print(f"{SECOND[0]} does not decide the lemma {name}")
+            print(f"the other solver does not decide the lemma {name}")
     answers = ANSWERS.copy()
     try:
         rustc = version(options.tree)
@@ -138,7 +138,7 @@ def main() -> int:
     print(f"{count}, {time.process_time() + seconds:.0f} s of processor")
     if SECOND:
         answers = sum((it.answers for it in found), answers)
-        print(f"{SECOND[0]} refutes {answers['unsat']} of {answers.total()} goals too")
+        print(f"the other solver refutes {answers['unsat']} of {answers.total()} goals too")
     return int(not found or proved < len(found))
 
 

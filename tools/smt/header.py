@@ -132,7 +132,7 @@ def main() -> int:
         return 1
     faults = sum(prove(options.folder, it, options.only) for it in builds)
     if SECOND:
-        print(f"{SECOND[0]} refutes {ANSWERS['unsat']} of {ANSWERS.total()} goals too")
+        print(f"the other solver refutes {ANSWERS['unsat']} of {ANSWERS.total()} goals too")
     return int(faults > 0)
 
 

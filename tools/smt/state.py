@@ -68,7 +68,7 @@ def ask_simplified() -> None:
 def undecided() -> str:
     """Says how often the other solver gave no answer."""
     count = ANSWERS.total() - ANSWERS["unsat"]
-    return f", {count} not decided by {SECOND[0]}" if count else ""
+    return f", {count} not decided by the other solver" if count else ""
 
 
 def use_second(command: list[str]) -> None:
