@@ -82,7 +82,32 @@ def listed() -> str:
     return "\n".join(lines[1:]) + "\n"
 
 
+def exchangeable(package: str) -> list[str]:
+    """Returns the functions of a part of the list that rustc takes with two arguments exchanged,
+    because both have one type; and those that take bytes of any kind, but are no constructor."""
+    found = []
+    for line in re.findall(r"\bfn \w.*", package):
+        name, given = re.findall(r"fn (\w+)[^(]*\((.*?) ?\)(?: ?->| where|$)", line)[0]
+        types = [re.sub("'\\w+ ", "", it) for it in re.findall(r"\w: ([^:]*?)(?=, \w+: |$)", given)]
+        is_bytes = "&[u8]" in types and (name != "new" or len(types) > 1)
+        if is_bytes or len(set(types)) < len(types):
+            found.append(line)
+    return found
+
+
 class Api(unittest.TestCase):
+    def test_arguments_of_variations(self) -> None:
+        """Those of one function differ in their types."""
+        _, package = LIST.read_text().split("\nvariations/src/generated/", 1)
+        self.assertGreater(len(re.findall(r"\bfn new\(bytes: &'a \[u8\]\)", package)), 4)
+        self.assertEqual(exchangeable(package), [])
+        for planted in (
+            "fn map(&self, x: Fixed, bytes: &[u8]) -> Fixed",
+            "fn new(store: &'a [u8], list: &'b [u8]) -> Self",
+            "fn at(&self, outer: u16, set: Option<(u8, u8)>, inner: u16)",
+        ):
+            self.assertEqual(exchangeable(package + planted), [planted])
+
     def test_api(self) -> None:
         self.maxDiff = None
         self.assertMultiLineEqual(LIST.read_text(), listed())
