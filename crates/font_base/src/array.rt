@@ -403,6 +403,13 @@ impl<'a, T: Scalar> ScalarArray<'a, T> {
 ///
 /// `nth`, `skip` and `step_by` decode each element that they pass: [`slice`](ScalarArray::slice)
 /// the array first. To fill a `Vec` in Rust, collect [`ScalarArray::iter`] instead.
+///
+/// ```
+/// use font_types::ScalarArray;
+/// let mut words = ScalarArray::<u16>::new(&[0, 1, 0, 4, 0, 9]).unwrap().into_iter();
+/// assert_eq!([words.next(), words.next_back()], [Some(1), Some(9)]);
+/// assert_eq!(words.as_array().as_bytes(), [0, 4]);
+/// ```
 #[derive(Drop)]
 pub struct ScalarArrayIter<'a, T: Scalar> {
     rest: Iter<'a, T::Raw>,

@@ -15,6 +15,13 @@ use crate::facts::each_is_byte;
 
 /// A fixed-size big-endian byte array.
 ///
+/// ```
+/// use font_types::BeByteArray;
+/// let raw = <[u8; 2]>::from_slice(&[1, 2]).unwrap();
+/// assert_eq!(raw.as_slice(), [1, 2]);
+/// assert!(<[u8; 2]>::from_slice(&[1, 2, 3]).is_none());
+/// ```
+///
 /// # Laws
 ///
 /// Rattle proves these of every implementation; rustc checks none of them.
@@ -316,6 +323,16 @@ pub trait Scalar: FixedSize {
 }
 
 /// A scalar whose `==` is identity.
+///
+/// Fields of such a scalar are ordered by value:
+///
+/// ```
+/// use font_types::{BigEndian, IdentityEq, Scalar};
+/// fn least<T: Scalar + Copy + Ord + IdentityEq>(a: BigEndian<T>, b: BigEndian<T>) -> T {
+///     a.min(b).get()
+/// }
+/// assert_eq!(least(BigEndian::from(1_i16), BigEndian::from(-1)), -1);
+/// ```
 ///
 /// # Laws
 ///

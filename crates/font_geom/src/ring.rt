@@ -10,6 +10,36 @@ use crate::MatrixElement;
 /// Products of matrices over such elements are associative, and `(a * b) * p` equals `a * (b * p)`.
 /// `Fixed` is not one, because its products are rounded.
 ///
+/// The numbers modulo 2 are a ring:
+///
+/// ```
+/// use font_types::{Matrix, MatrixElement, RingElement};
+/// use std::ops::{Add, Mul};
+///
+/// #[derive(Clone, Copy, Debug, PartialEq)]
+/// struct Bit(bool);
+///
+/// impl Add for Bit {
+///     type Output = Bit;
+///     fn add(self, other: Bit) -> Bit { Bit(self.0 ^ other.0) }
+/// }
+///
+/// impl Mul for Bit {
+///     type Output = Bit;
+///     fn mul(self, other: Bit) -> Bit { Bit(self.0 & other.0) }
+/// }
+///
+/// impl MatrixElement for Bit {
+///     const ZERO: Bit = Bit(false);
+///     const ONE: Bit = Bit(true);
+/// }
+///
+/// impl RingElement for Bit {}
+///
+/// let exchange = Matrix::from_elements([false, true, true, false, false, false].map(Bit));
+/// assert_eq!(exchange * exchange, Matrix::identity());
+/// ```
+///
 /// # Laws
 ///
 /// Rattle proves these of every implementation; rustc checks none of them.

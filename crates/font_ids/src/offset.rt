@@ -277,6 +277,14 @@ impl IdentityEq for Offset32 {
 
 /// An offset that can be [`Nullable`].
 ///
+/// ```
+/// use font_types::{Offset16, Offset32, OffsetValue};
+/// fn is_before<T: OffsetValue, U: OffsetValue>(a: T, b: U) -> bool {
+///     a.value_u32() < b.value_u32()
+/// }
+/// assert!(is_before(Offset32::NULL, Offset16::new(8)));
+/// ```
+///
 /// # Laws
 ///
 /// Rattle proves this of every implementation; rustc does not check it.

@@ -12,6 +12,13 @@ use crate::definitions::font_base::{
 
 /// A fixed-size big-endian byte array.
 ///
+/// ```
+/// use font_types_proved::BeByteArray;
+/// let raw = <[u8; 2]>::from_slice(&[1, 2]).unwrap();
+/// assert_eq!(raw.as_slice(), [1, 2]);
+/// assert!(<[u8; 2]>::from_slice(&[1, 2, 3]).is_none());
+/// ```
+///
 /// # Laws
 ///
 /// Rattle proves these of every implementation; rustc checks none of them.
@@ -411,6 +418,16 @@ pub trait Scalar: FixedSize {
 }
 
 /// A scalar whose `==` is identity.
+///
+/// Fields of such a scalar are ordered by value:
+///
+/// ```
+/// use font_types_proved::{BigEndian, IdentityEq, Scalar};
+/// fn least<T: Scalar + Copy + Ord + IdentityEq>(a: BigEndian<T>, b: BigEndian<T>) -> T {
+///     a.min(b).get()
+/// }
+/// assert_eq!(least(BigEndian::from(1_i16), BigEndian::from(-1)), -1);
+/// ```
 ///
 /// # Laws
 ///
