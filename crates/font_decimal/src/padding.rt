@@ -76,6 +76,14 @@ impl Pad {
 /// leaves `out` unchanged if it is too short.
 ///
 /// The text need not be a decimal: its sign is a `-` at its start.
+///
+/// ```
+/// use font_types::{Pad, write_padded};
+/// let mut out = [b'.'; 8];
+/// let pad = Pad { zeros: true, ..Pad::new(6) };
+/// assert_eq!(write_padded("-1.5", &mut out, &pad), Some(6));
+/// assert_eq!(&out, b"-001.5..");
+/// ```
 pub fn write_padded(text: &str, out: &mut [u8], pad: &Pad) -> Option<usize>
     ensures written { IfSome result
         (λ n. FillsFront (padded_text text.now pad.now) n out.old out.new) }

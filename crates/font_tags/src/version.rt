@@ -48,6 +48,12 @@ impl Version16Dot16 {
     pub const VERSION_3_0: Self = Self(0x0003_0000);
 
     /// Creates a version. A minor number above 9 counts as 9.
+    ///
+    /// ```
+    /// use font_types::Version16Dot16;
+    /// assert_eq!(Version16Dot16::new(2, 5), Version16Dot16::VERSION_2_5);
+    /// assert_eq!(Version16Dot16::new(1, 12).to_major_minor(), (1, 9));
+    /// ```
     pub const fn new(major: u16, minor: u16) -> Self
         ensures { version_bits result ≡ packed_version major minor }
     {

@@ -83,6 +83,14 @@ impl Pad {
 ///
 /// The text need not be a decimal: its sign is a `-` at its start.
 ///
+/// ```
+/// use font_types_proved::{Pad, write_padded};
+/// let mut out = [b'.'; 8];
+/// let pad = Pad { zeros: true, ..Pad::new(6) };
+/// assert_eq!(write_padded("-1.5", &mut out, &pad), Some(6));
+/// assert_eq!(&out, b"-001.5..");
+/// ```
+///
 /// <details><summary>Contract</summary>
 ///
 /// ```text

@@ -51,6 +51,12 @@ impl Version16Dot16 {
 
     /// Creates a version. A minor number above 9 counts as 9.
     ///
+    /// ```
+    /// use font_types_proved::Version16Dot16;
+    /// assert_eq!(Version16Dot16::new(2, 5), Version16Dot16::VERSION_2_5);
+    /// assert_eq!(Version16Dot16::new(1, 12).to_major_minor(), (1, 9));
+    /// ```
+    ///
     /// <details><summary>Contract</summary>
     ///
     /// ```text
