@@ -376,6 +376,13 @@ impl DivAssign for Fixed {
 }
 
 /// Converts as `from_i32` does, wrapping on overflow.
+/// Wraps, as `from_i32` does. So std's `try_from` of an `i32` wraps too: call `checked_from_i32`.
+///
+/// ```
+/// use font_types::Fixed;
+/// assert_eq!(Fixed::try_from(40_000), Ok(Fixed::from_i32(-25_536)));
+/// assert_eq!(Fixed::checked_from_i32(40_000), None);
+/// ```
 impl From<i32> for Fixed {
     ghost from_gives = { λ number fixed. bits_of fixed ≡ wrap 32 (number *ℤ pos (2 ^ 16)) };
 

@@ -541,6 +541,13 @@ impl DivAssign for Fixed {
 }
 
 /// Converts as `from_i32` does, wrapping on overflow.
+/// Wraps, as `from_i32` does. So std's `try_from` of an `i32` wraps too: call `checked_from_i32`.
+///
+/// ```
+/// use font_types_proved::Fixed;
+/// assert_eq!(Fixed::try_from(40_000), Ok(Fixed::from_i32(-25_536)));
+/// assert_eq!(Fixed::checked_from_i32(40_000), None);
+/// ```
 ///
 /// <details><summary>Contract</summary>
 ///
