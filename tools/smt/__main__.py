@@ -83,7 +83,11 @@ def run(options: argparse.Namespace, room: Path) -> list[Proved]:
     SHARED = options, module, ctypes.CDLL(str(built.library)), list(groups.values())
     found: list[Proved] = []
     # A function that aborts ends its process, and with it the run.
-    with ProcessPoolExecutor(options.jobs, multiprocessing.get_context("fork")) as pool:
+    try:
+        processes = ProcessPoolExecutor(options.jobs, multiprocessing.get_context("fork"))
+    except OSError as error:
+        raise Refusal(f"Python starts no process without a /dev/shm to write to: {error}") from None
+    with processes as pool:
         for group in pool.map(prove, range(len(groups))):
             for it in group:
                 print(it.shown, flush=True)
