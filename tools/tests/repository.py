@@ -305,6 +305,10 @@ class Package(unittest.TestCase):
         tomls = "Cargo.toml c/Cargo.toml compare/Cargo.toml variations/Cargo.toml".split()
         for path in tomls:
             self.assertIn("\npublish = false\n", text(path), path)
+        # Of a git dependency, cargo takes whichever package has the name.
+        named = re.compile('^name = "font-(?:types|variations)-proved"$', re.M)
+        found = [path for path in of("", "Cargo.toml") if named.search(text(path))]
+        self.assertEqual(found, ["Cargo.toml", "variations/Cargo.toml"])
         # The package of variations has a version of its own, below 1.0.
         (own,) = re.findall(r'^version = "(0\.\d+\.\d+)"$', text("variations/Cargo.toml"), re.M)
         for path in ("Cargo.lock", "variations/Cargo.lock"):
