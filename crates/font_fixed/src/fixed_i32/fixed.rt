@@ -376,7 +376,9 @@ impl DivAssign for Fixed {
 }
 
 /// Converts as `from_i32` does, wrapping on overflow.
-/// Wraps, as `from_i32` does. So std's `try_from` of an `i32` wraps too: call `checked_from_i32`.
+///
+/// `try_from` of an `i32` is std's, and wraps too. To be told of overflow, call
+/// `checked_from_i32`:
 ///
 /// ```
 /// use font_types::Fixed;
