@@ -46,8 +46,8 @@ def run(root: Path, *command: str) -> str:
 
 
 def tree(root: Path) -> str:
-    """Returns which tree of `crates` is here, if git knows it, or "" in an archive."""
-    found = run(root, "git", "rev-parse", "HEAD:crates")
+    """Returns which tree of `crates` is here, or "" in an archive, also inside of another clone."""
+    found = run(root, "git", "rev-parse", "--verify", "HEAD:./crates")
     if not found:
         return ""
     is_changed = run(root, "git", "status", "--porcelain", "crates")

@@ -16,6 +16,7 @@ ROOT = pathlib.Path(__file__).resolve().parents[2]
 sys.path.append(str(ROOT / "tools/mir"))
 
 import declared
+import kept
 import rattle
 import rust
 from compare import compare, taken
@@ -145,6 +146,20 @@ def differing(room: pathlib.Path, source: str) -> tuple[set[str], list[str]]:
 
 
 class Mir(unittest.TestCase):
+    def test_tree(self) -> None:
+        """A folder of a clone has a tree of its own; files that the clone ignores have none."""
+        room = pathlib.Path(self.enterContext(tempfile.TemporaryDirectory()))
+        for folder in "", "inner", "target":
+            (room / folder / "crates").mkdir(parents=True)
+            (room / folder / "crates/file").write_text(folder)
+        (room / ".gitignore").write_text("target/\n")
+        commit = "-c user.name=me -c user.email=me@localhost commit -qm one".split()
+        for command in ["init", "-q"], ["add", "."], commit:
+            subprocess.run(["git", *command], cwd=room, check=True)
+        trees = [kept.tree(room / folder) for folder in ("", "inner", "target")]
+        self.assertEqual([bool(it) for it in trees], [True, True, False])
+        self.assertNotEqual(trees[0], trees[1])
+
     def test_declarations(self) -> None:
         sources = Sources(ROOT)
         self.assertEqual([*declared.faults(ROOT, sources.files, sources.lines)], [])
