@@ -49,7 +49,7 @@ else
 fi
 
 # If Python and a font are installed, each export as a language calls it that does not read C.
-font=$(find -L /usr/share/fonts -name 'DejaVu*.ttf' 2>/dev/null | sort | sed -n 1p)
+font=$(find -L /usr/share/fonts -name 'DejaVu*.ttf' 2>/dev/null | sort | sed -n 1p || true)
 if command -v python3 >/dev/null && [[ -n $font ]]; then
     from_python=(python3 tests/exports.py "$root/lib/libfont_types.so" "$font")
     called=$("${from_python[@]}")
