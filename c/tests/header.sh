@@ -174,7 +174,7 @@ if [[ -z ${BUILT-} && -n $solver ]] && command -v clang-22 >/dev/null; then
             done
         done
     done
-else
+elif [[ -z ${BUILT-} ]]; then
     echo "left out: the proof of the header, which needs clang-22 and python3-z3"
 fi
 
