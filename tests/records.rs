@@ -177,7 +177,10 @@ fn arrays_of_arrays() {
     assert_eq!((pairs.len(), pairs.get(1)), (2, Some([3, 4])));
     assert_eq!(pairs.as_bytes(), bytes);
     assert!(ScalarArray::<[u16; 2]>::new(&bytes[..6]).is_none());
-    assert_eq!(<[u16; 2]>::read(&bytes), None);
+    for len in 0..=bytes.len() {
+        let read = <[u16; 2]>::read(&bytes[..len]);
+        assert_eq!(read, (len == 4).then_some([1, 2]), "{len} bytes");
+    }
     assert_eq!(ScalarArray::<[u16; 3]>::read_at(&bytes, 2, 1).unwrap().first(), Some([2, 3, 4]));
     assert_eq!(ScalarArray::<[u16; 0]>::new(&[]).unwrap().len(), 0);
     assert!(ScalarArray::<[u16; 0]>::new(&[1]).is_none());
