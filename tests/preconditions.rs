@@ -97,3 +97,11 @@ fn callbacks_and_operators_that_panic() {
     assert_eq!(returned(|| sides.scale(-1)).map(|sides| sides.x_min), kept);
     assert!(returned(|| point / Point::broadcast(0)).is_none());
 }
+
+#[test]
+fn literals_name_the_fault() {
+    for (text, fault) in [(".5", DecimalFault::Syntax), ("32768", DecimalFault::OutOfRange)] {
+        let message = catch_unwind(|| Fixed::lit(text)).unwrap_err();
+        assert_eq!(message.downcast_ref(), Some(&fault.to_string()), "{text}");
+    }
+}
