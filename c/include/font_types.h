@@ -4,8 +4,9 @@
  * Big-endian fields, fixed-point numbers, matrices, sums of deltas and tags of OpenType fonts.
  * For C99 and later, and for C++11 and later.
  *
- * In C, in this file: `static inline`, and constant expressions from C++14 on, except
- * fty_put_bytes and fty_write_bytes. A program that calls only these needs no library.
+ * In C, in this file: `static inline` functions. From C++14 on, a call of one can be a constant
+ * expression, except a call of fty_put_bytes or fty_write_bytes. A program that calls only functions
+ * of this list needs no library.
  *
  *     views         fty_{absent,first,items,from,follow}  fty_at_offset{16,24,32}
  *     fields        fty_{u8,i8,u16,i16,u24,u32,i32,i64,uint}
@@ -39,7 +40,8 @@
  *     fty_abi_{delta_sum,delta_set_sum,format,format_padded,tag_format}  fty_parse_{i16,i32,i64}
  *     fty_checked_add_delta_{i16,u16}  fty_tag_{parse,validate}  fty_version
  *
- * Each function that the library exports has a contract that is proved; its comment states it.
+ * Each function that the library exports has a contract that is proved. The comment of the function
+ * states the contract.
  * What the functions in C return and write, and that they touch nothing else, is proved for every
  * argument, of what Clang 22 makes of them for a size_t of 64 bits and of 32. That GCC and another
  * Clang make the same of them is tested.
@@ -76,7 +78,7 @@
  * No function of the first two lists takes two integers of different kinds, which a compiler would
  * take in any order: an offset is the only integer of its call, fraction bits are a fty_fraction,
  * and an array beside another integer is one value with its length, a fty_view, fty_span,
- * fty_buffer or fty_numbers. A text, or points, beside none are a pointer and a length.
+ * fty_buffer or fty_numbers. A text, or points, beside no integer are a pointer and a length.
  *
  * What writes text stores the text in a fty_buffer, and its length where the last argument points.
  * If two errors apply, the status is the first that the comment lists. If a function fails, it
@@ -92,7 +94,8 @@
  * What a call writes may be uninitialized. The library is Rust, which asks for initialized
  * values there: callers rely on its object code, which loads nothing from where it writes
  * before it has stored there (this is tested, not proved), except for what is changed in place, by
- * fty_matrix_images and fty_checked_add_delta_*. If you do not want to rely on that, initialize it.
+ * fty_matrix_images and fty_checked_add_delta_*. If you do not want to rely on that, initialize what
+ * a call writes.
  */
 #ifndef FONT_TYPES_H
 #define FONT_TYPES_H
