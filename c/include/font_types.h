@@ -76,9 +76,10 @@
  * - A name with "api" or "API" is private to this header.
  *
  * No function of the first two lists takes two integers of different kinds, which a compiler would
- * take in any order: an offset is the only integer of its call, fraction bits are a fty_fraction,
- * and an array beside another integer is one value with its length, a fty_view, fty_span,
- * fty_buffer or fty_numbers. A text, or points, beside no integer are a pointer and a length.
+ * take in any order, but fty_items, for which both orders are one: an offset is the only integer of
+ * its call, fraction bits are a fty_fraction, and an array beside another integer is one value with
+ * its length, a fty_view, fty_span, fty_buffer or fty_numbers. A text, or points, beside no integer
+ * are a pointer and a length.
  *
  * What writes text stores the text in a fty_buffer, and its length where the last argument points.
  * If two errors apply, the status is the first that the comment lists. If a function fails, it
