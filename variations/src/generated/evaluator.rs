@@ -123,7 +123,7 @@ impl FromStr for Setting {
 /// The source and its contracts: `crates/variations/src/evaluator.rt`.
 #[derive(Clone, Copy, PartialEq, Eq, Hash, Debug)]
 pub struct VariationAxisRecord {
-    /// The tag of the axis, as `wght`.
+    /// The tag of the axis, such as `wght`.
     pub axis_tag: Tag,
     /// The least value.
     pub min_value: Fixed,
