@@ -21,7 +21,7 @@ NEEDED = ("Cargo.toml", "Cargo.lock", "src", "examples", "c", "variations")
 
 # How many edits have no place in the Rust, such as those of ghost items, and how many are no Rust.
 NOWHERE, NO_RUST = "change what is in no function of the Rust", "do not compile as Rust"
-HOW_MANY = {NOWHERE: 6, NO_RUST: 1}
+HOW_MANY = {NOWHERE: 5, NO_RUST: 1}
 
 START = re.compile(r"^( *)(?:[\w\"()]+ )*?fn (\w+)", re.M)
 OUTER = re.compile(r"^(?:pub(?:\(.*?\))? )?(?:impl|trait (\w+))", re.M)
@@ -48,10 +48,13 @@ class Edit:
             self.find(function, *(re.sub(r"\bcrate::", own, it) for it in change))
 
     def find(self, function: str, old: str, new: str) -> None:
-        """Finds the one place of a text, laid out in any way; of several, that in the function."""
+        """Finds the one place of a text, laid out as it is or else in any way; of several, that in
+        the function."""
         words = r"\s*".join(map(re.escape, re.findall(r"\w+|[^\w\s]", old.removesuffix(","))))
         after = r"(?:,|(?=\s*[})]))" if old.endswith(",") else ""
-        found = [*re.finditer(words + after, self.source)]
+        found = [*re.finditer(re.escape(old), self.source)]
+        if len(found) != 1:
+            found = [*re.finditer(words + after, self.source)]
         if len(found) > 1:
             keys = ((it, self.key_at(it.start()) or "") for it in found)
             found = [it for it, key in keys if key.endswith(f"::{function}")]
