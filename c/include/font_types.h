@@ -57,18 +57,19 @@
  * Names obey these rules, with which c/tests/names.awk compares names and types:
  *
  * - A name begins with what the function is of: a format, a matrix, delta, tag, span or status. If
- *   it begins with none of these, it is of bytes, of any numbers, or of the library.
+ *   it begins with none of these, it is of bytes, of any numbers, or of the library. Before all of
+ *   this may stand "abi".
  * - A function of a format takes and gives raw values in the type of the format, except what a name
  *   with "to" or "from" converts to or from. The format "fixed" is 16.16.
  * - A type at the end of a name, such as i32, is the type of a number that the function takes or
  *   gives.
  * - Each integer type of OpenType has all functions of fields, but u8 and i8 have no "peek" and
  *   "poke". No other type has any. ("uint" is all 1 to 4 bytes of a part.)
- * - "read" leaves a view where it is, and "take" moves it past what is taken. "write" leaves a span
- *   where it is, and "put" moves it past what is written.
+ * - "read" leaves a view where it is, and "take" moves a view or a span past what is taken. "write"
+ *   leaves a span where it is, and "put" moves it past what is written.
  * - "parse" is from text, and "format" is to text.
- * - "checked" means, as in Rust, that the function fails where a sum, a rounding or a conversion of
- *   this name wraps.
+ * - "checked" means, as in Rust, that the function fails, by FTY_OUT_OF_RANGE, where its sum, its
+ *   rounding or its conversion does not fit.
  * - A function that can fail returns a fty_status, and stores its result where its last argument
  *   points, or in its span. Any other returns its result, but poke and fty_matrix_images store it.
  * - A "length" counts bytes, a "count" elements, a "size" the bytes of one element, and "room" the
@@ -92,11 +93,11 @@
  * NUL is not needed; after a text that is written comes a NUL if the buffer has room for it.
  * Functions allocate nothing, keep nothing between calls and may be called from any thread.
  *
- * What a call writes may be uninitialized. The library is Rust, which asks for initialized
- * values there: callers rely on its object code, which loads nothing from where it writes
- * before it has stored there (this is tested, not proved), except for what is changed in place, by
- * fty_matrix_images and fty_checked_add_delta_*. If you do not want to rely on that, initialize what
- * a call writes.
+ * What a call writes may be uninitialized, except a view or a span that the call moves, and what is
+ * changed in place, by fty_matrix_images and fty_checked_add_delta_*. The library is Rust, which asks
+ * for initialized values there: callers rely on its object code, which loads nothing from where it
+ * writes before it has stored there (this is tested, not proved). If you do not want to rely on
+ * that, initialize what a call writes.
  */
 #ifndef FONT_TYPES_H
 #define FONT_TYPES_H
@@ -179,7 +180,7 @@
 extern "C" {
 #endif
 
-/** The result of a call that can fail. Later versions may add some. */
+/** The result of a call that can fail. Later versions may add values. */
 typedef enum fty_status FTY_API_OF_32_BITS {
     FTY_OK = 0,               /**< success: the result was stored */
     FTY_NOT_DECIMAL = 1,      /**< the text is not a decimal */
@@ -1209,7 +1210,7 @@ typedef enum fty_align FTY_API_OF_32_BITS {
     FTY_RIGHT = 2   /**< fill on the left */
 } fty_align;
 
-/** How to pad a decimal. No version 1 adds a member: more would be a new type, with new calls. */
+/** How to pad a decimal. No version 1.n adds a member: more would be a new type, with new calls. */
 typedef struct fty_pad {
     size_t width;  /**< the minimum width in bytes; 0 means none */
     uint8_t fill;  /**< the fill byte, below 0x80; 0 means a space */

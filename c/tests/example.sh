@@ -37,7 +37,7 @@ if command -v cmake >/dev/null; then
     cmake --build "$work/cmake/build" >"$work/log"
     is "$("${empty[@]}" "$work/cmake/build/reader")" "$shown"
     # Another version is not found.
-    sed -i "s/font_types $version /font_types 0.6 /" "$work/cmake/CMakeLists.txt"
+    sed -Ei 's/font_types [0-9.]+ /font_types 0.6 /' "$work/cmake/CMakeLists.txt"
     fails "${with_cmake[@]}" -B "$work/cmake/other"
     grep 'font_types-config.cmake, version: ' "$work/log" >/dev/null
 else

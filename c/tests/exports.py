@@ -1,6 +1,6 @@
 """Calls each export from Python, over a font: `c/tests/exports.py LIBRARY.so FONT.ttf`. It reads
 the values of the font itself, compares results with exact fractions, and prints the names of what
-it called. With a third argument, it expects one wrong value."""
+it called. With a third argument, it compares two values more, which differ, and so it fails."""
 
 import ctypes
 import re
@@ -31,10 +31,14 @@ values, wrong = 0, 0
 
 
 def export(name: str, result: Any, *parameters: Any) -> Callable[..., Any]:
-    called.add(f"fty_{name}")
     found = getattr(library, f"fty_{name}")
     found.restype, found.argtypes = result, parameters
-    return found  # type: ignore[no-any-return]
+
+    def call(*arguments: Any) -> Any:
+        called.add(f"fty_{name}")
+        return found(*arguments)
+
+    return call
 
 
 def check(what: str, found: Any, expected: Any) -> None:
