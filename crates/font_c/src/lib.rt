@@ -3,9 +3,10 @@
 //! Exports have no preconditions, because C callers are not checked. An export that can fail
 //! returns a status and stores its result at its last argument; if it fails, it leaves all memory
 //! unchanged, except that `fty_tag_validate` stores the index of the invalid byte. Nothing is kept
-//! between calls, and nothing is allocated. `c/include/font_types.h` declares the exports, and has
-//! fields and rounding to integers as functions in C. Some of these call the exports whose names
-//! begin with `fty_abi_`, which take numbers that C would take in another order too.
+//! between calls, and nothing is allocated. `c/include/font_types.h` declares the exports, except two
+//! products, which it has in C. It also has other functions in C, such as those of fields and
+//! rounding. The exports whose names begin with `fty_abi_` take integers that C would take in another
+//! order too, so five functions in C, such as `fty_format`, call them.
 #![tactic(auto)]
 
 mod delta;

@@ -37,7 +37,7 @@ pub record AnswersAll (left left' : Option (List ℕ)) (output : List ℕ) : Typ
 abbrev pub HasNoEnd : List ℕ → Type 0
 HasNoEnd bytes = All (λ byte. byte ≢ 10) bytes
 
--- no line, or lines of which the last has its line feed too
+-- no byte, or bytes of which the last is a line feed
 abbrev pub AreEnded : List ℕ → Type 0
 AreEnded bytes = (bytes ≡ []) ⊎ ((front : List ℕ) × (bytes ≡ front ++ 10 ∷ []))
 

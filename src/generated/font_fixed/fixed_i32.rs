@@ -2,7 +2,7 @@
 
 //! 32-bit fixed-point numbers.
 
-// The eraser makes that of the other widths from it.
+// From this module, the eraser makes the module `common` of each other width.
 mod common;
 mod f26dot6;
 mod f2dot30;

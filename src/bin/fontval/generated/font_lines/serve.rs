@@ -75,7 +75,8 @@ fn answer_all<A: Allocator + Copy, S: Source>(
     }
 }
 
-// Appends the answers to the lines that end in a block, and keeps the line that begins there.
+// Appends the answers to the lines that end in a block, and keeps the line that has begun and not
+// ended.
 fn append_ended<A: Allocator + Copy>(
     alloc: A,
     block: &[u8],
