@@ -48,17 +48,17 @@ class Edit:
             self.find(function, *(re.sub(r"\bcrate::", own, it) for it in change))
 
     def find(self, function: str, old: str, new: str) -> None:
-        """Finds the one place of a text, laid out as it is or else in any way; of several, that in
-        the function."""
+        """Finds the one place of a text, laid out in any way; of several, that in the function, and
+        of several there, that laid out as the text is."""
         words = r"\s*".join(map(re.escape, re.findall(r"\w+|[^\w\s]", old.removesuffix(","))))
         after = r"(?:,|(?=\s*[})]))" if old.endswith(",") else ""
-        found = [*re.finditer(re.escape(old), self.source)]
-        if len(found) != 1:
-            found = [*re.finditer(words + after, self.source)]
+        found = [*re.finditer(words + after, self.source)]
         if len(found) > 1:
             keys = ((it, self.key_at(it.start()) or "") for it in found)
             found = [it for it, key in keys if key.endswith(f"::{function}")]
             found = [it for it in found if self.source[it.end()] not in ".("]
+        if len(found) > 1:
+            found = [it for it in found if self.source.endswith(old, 0, it.end())]
         if len(found) == 1:
             self.changes.append((found[0].start(), found[0].end(), new))
             self.keys |= {self.key_at(it) for it in self.uses(found[0])}
