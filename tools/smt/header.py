@@ -2,10 +2,11 @@
 the second proof: for every argument, the result is right and nothing is undefined. `c_numbers.py`
 and `c_views.py` of `rows` have the rows.
 
-`/usr/bin/python3 tools/smt/header.py [--only PATTERN] [--builds NAME,..] [FOLDER]`
+`/usr/bin/python3 tools/smt/header.py [--only PATTERN] [--builds NAME,..] [--solver COMMAND] [FOLDER]`
 
 `clang-22` has the LLVM of rustc 1.95. `FOLDER` has the header. Each build is proved, or those that
-are named, of which `--list` prints the names. `--program FILE` writes a program in C instead, which
+are named, of which `--list` prints the names. `--solver` asks another solver, as in `tools/smt`.
+`--program FILE` writes a program in C instead, which
 prints for each row a number of what the row returns and writes for random arguments: whichever
 compiler makes it, it prints the same, and for sizes of 32 bits whichever processor runs it.
 `--constants FILE` writes one in C++14, which compares rows with themselves in constant expressions."""
