@@ -82,11 +82,11 @@ def prove(folder: Path, build: str, only: str) -> int:
             library = ctypes.CDLL(f"{room}/rows.so")
     faults, chosen = 0, [it for it in ROWS if re.search(only, it.name)]
     for case in chosen:
-        start, proof, before = time.process_time(), Row(module, case, library), undecided()
+        start, proof, before = time.process_time(), Row(module, case, library), ANSWERS.copy()
         fault = fault_of(proof)
         faults += fault != ""
         shown = f"{proof.goals:3} goals {time.process_time() - start:7.2f} s  {fault or 'proved'}"
-        shown += undecided() if undecided() != before else ""
+        shown += undecided(ANSWERS - before)
         print(f"{case.name:40} {shown}", flush=True)
     seconds = f"{time.process_time() - began:.0f} s of processor"
     count = f"{len(chosen) - faults} of {len(chosen)} rows proved in the {build} build"

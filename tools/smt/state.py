@@ -65,9 +65,9 @@ def ask_simplified() -> None:
         made.clear()
 
 
-def undecided() -> str:
+def undecided(answers: Counter[str] = ANSWERS) -> str:
     """Says how often the other solver gave no answer."""
-    count = ANSWERS.total() - ANSWERS["unsat"]
+    count = answers.total() - answers["unsat"]
     return f", {count} not decided by the other solver" if count else ""
 
 
