@@ -5,8 +5,9 @@
 `--checked` compiles with checks of overflow and debug assertions, and so shows that none of them
 fails. Without it, the build has neither, like a release build. `--exhaustive` adds the rows of each
 number of fraction bits. `--mutants` tries wrong Rust. `--solver` asks another solver, which reads
-SMT-LIB, of all that Z3 refutes, and of each term whether it is what Z3 simplified it to. It fails
-if that solver finds values, and names the rows and lemmas of which it decides something not."""
+SMT-LIB, of each goal and lemma that Z3 refutes, and of each term whether it is what Z3 simplified
+it to. It fails if that solver finds values, and names the rows and lemmas of which it decides
+something not."""
 
 import argparse
 import ctypes
