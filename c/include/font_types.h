@@ -95,9 +95,9 @@
  *
  * What a call writes may be uninitialized, except a view or a span that the call moves, and what is
  * changed in place, by fty_matrix_images and fty_checked_add_delta_*. The library is Rust, which asks
- * for initialized values there: callers rely on its object code, which loads nothing from where it
- * writes before it has stored there (this is tested, not proved). If you do not want to rely on
- * that, initialize what a call writes.
+ * for initialized values there: callers rely on its object code, which loads nothing from there
+ * before it has stored it (this is tested, not proved). If you do not want to rely on that,
+ * initialize what a call writes.
  */
 #ifndef FONT_TYPES_H
 #define FONT_TYPES_H
