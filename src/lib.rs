@@ -105,9 +105,7 @@ pub mod porting {}
 #[path = "generated/definitions.rs"]
 pub mod definitions;
 
-mod cross_type;
-mod derives;
-mod literal;
+mod methods;
 mod record;
 mod traits;
 

@@ -1,4 +1,4 @@
-//! The hand-written impls of `src/traits.rs`, `src/derives.rs` and `src/cross_type.rs`.
+//! The hand-written impls of `src/traits.rs`.
 
 use font_types_proved::*;
 use std::cell::Cell;

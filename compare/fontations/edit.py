@@ -32,7 +32,7 @@ EDITS = [
     (rf"^pub struct (({NUMBERS})\(|[UI]i?nt24 |BigEndian<)", r"#[repr(transparent)]\n\g<0>", 19),
     (r"^pub struct (Matrix<T>|Point<T>|MajorMinor) ", r"#[repr(C)]\n\g<0>", 3),
     (
-        r"^mod cross_type;",
+        r"^mod methods;",
         r"#[allow(missing_docs, clippy::all)]\nmod compat;\n"
         r"pub mod raw {\n    pub use crate::Scalar;\n}\n\g<0>",
         1,
