@@ -158,7 +158,7 @@ run env BUILT="$PWD/target" ./check example | sed 's/^/make check: /'
 
 # Two versions in one process: a host with a stand-in of 9.0, and plug-ins with the shared library
 # and with the archive.
-sed "s/$version/9.0/" font_types.map >"$work/stand_in.map"
+sed "s/FONT_TYPES_$version/FONT_TYPES_9.0/" font_types.map >"$work/stand_in.map"
 cc -shared -fPIC -Iinclude -DSTAND_IN tests/versions.c \
     "-Wl,-soname,libfont_types.so.9.0,--version-script=$work/stand_in.map" \
     -o "$work/libfont_types.so.9.0"

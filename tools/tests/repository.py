@@ -129,7 +129,8 @@ def lists(shown: str, is_page: bool) -> Iterator[str]:
 
 class Pages(unittest.TestCase):
     def test_names_paths_and_links(self) -> None:
-        texts = map(text, of("", ".rt", ".antt", ".rs", ".c", ".h", ".txt", ".py", ".in"))
+        endings = ".rt .antt .rs .c .h .map .txt .py .in".split()
+        texts = map(text, of("", *endings))
         source = words(" ".join([*FILES, OTHERS, *texts]))
         callers = {
             pathlib.Path(path).stem: words(text(path))
