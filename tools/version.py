@@ -27,6 +27,7 @@ PLACES = {
         ("c/include/font_types.h", 'FTY_VERSION "{full}"\n'),
         ("c/include/font_types.h", "FTY_VERSION_NUMBER 0x{major}{rest}\n"),
         ("c/README.md", "find_package(font_types {first} CONFIG"),
+        ("c/README.md", 'CDLL("libfont_types.so.{linked}")'),
         ("c/README.md", "`FONT_TYPES_{linked}`"),
         ("c/README.md", "`libfont-types{linked}`"),
         ("crates/font_c/src/version.rt", "ensures {{ result ≡ 0x{major}_{rest} }}"),
