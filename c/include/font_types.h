@@ -198,7 +198,10 @@ typedef enum fty_status FTY_API_OF_32_BITS {
     FTY_TAG_AFTER_SPACE = 12  /**< from fty_tag_validate: a printable byte after a space */
 } fty_status;
 
-/** A number of fraction bits: FTY_FIXED or its like, or FTY_FRACTION(20). */
+/**
+ * A number of fraction bits: FTY_FIXED or its like, or FTY_FRACTION(20). By the letter of C, these
+ * are no constants: in a static array, such as a table of formats, write {16} or {20}.
+ */
 typedef struct fty_fraction {
     uint32_t bits; /**< the number */
 } fty_fraction;
