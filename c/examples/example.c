@@ -15,9 +15,9 @@ int main(void) {
     char text[FTY_DECIMAL_ROOM];
     size_t length;
     fty_buffer buffer = {text, sizeof text};
-    status = fty_fixed_format(area, buffer, &length);                /* 2.25 */
+    status = fty_fixed_format(area, buffer, &length); /* 2.25 */
     fty_matrix half = {32768, 0, 0, 32768, 0, 0};
-    fty_point moved = fty_matrix_image(half, (fty_point){width, 0}); /* (49152, 0) */
+    fty_point moved = fty_matrix_transform_point(half, (fty_point){width, 0}); /* (49152, 0) */
     /* end */
     printf("%s: %.*s %d %d\n", fty_status_text(status), (int)length, text, (int)moved.x,
            (int)moved.y);

@@ -26,7 +26,7 @@
  * Calls of the library: link with libfont_types.
  *
  *     quotients     fty_fixed_{div,mul_div}  fty_f26dot6_div
- *     matrices      fty_matrix_{product,image,vector,images}
+ *     matrices      fty_matrix_product  fty_matrix_transform_{point,vector,points}
  *     deltas        fty_delta_{sum,set_sum}  fty_checked_add_delta_{i16,u16}
  *     decimals      fty_parse_{i16,i32,i64}  fty_{format,format_padded}
  *                   fty_{fixed,f2dot14,f26dot6}_{parse,format}
@@ -36,7 +36,8 @@
  * The exports, for languages that do not read this header. Of two names for one thing, the one
  * with "abi" is the export: it takes each array as a pointer and a length.
  *
- *     fty_{fixed,f26dot6}_{mul,div}  fty_fixed_mul_div  fty_matrix_{product,image,vector,images}
+ *     fty_{fixed,f26dot6}_{mul,div}  fty_fixed_mul_div
+ *     fty_matrix_product  fty_matrix_transform_{point,vector,points}
  *     fty_abi_{delta_sum,delta_set_sum,format,format_padded,tag_format}  fty_parse_{i16,i32,i64}
  *     fty_checked_add_delta_{i16,u16}  fty_tag_{parse,validate}  fty_version
  *
@@ -71,7 +72,8 @@
  * - "checked" means, as in Rust, that the function fails, by FTY_OUT_OF_RANGE, where its sum, its
  *   rounding or its conversion does not fit.
  * - A function that can fail returns a fty_status, and stores its result where its last argument
- *   points, or in its span. Any other returns its result, but poke and fty_matrix_images store it.
+ *   points, or in its span. Any other returns its result, but poke and fty_matrix_transform_points
+ *   store it.
  * - A "length" counts bytes, a "count" elements, a "size" the bytes of one element, and "room" the
  *   bytes of a buffer. An "offset" counts bytes from the start, and an "index" elements.
  * - A name with "api" or "API" is private to this header.
@@ -94,9 +96,9 @@
  * Functions allocate nothing, keep nothing between calls and may be called from any thread.
  *
  * What a call writes may be uninitialized, except a view or a span that the call moves, and what is
- * changed in place, by fty_matrix_images and fty_checked_add_delta_*. The library is Rust, which asks
- * for initialized values there: callers rely on its object code, which loads nothing from there
- * before it has stored it (this is tested, not proved). If you do not want to rely on that,
+ * changed in place, by fty_matrix_transform_points and fty_checked_add_delta_*. The library is Rust,
+ * which asks for initialized values there: callers rely on its object code, which loads nothing from
+ * there before it has stored it (this is tested, not proved). If you do not want to rely on that,
  * initialize what a call writes.
  */
 #ifndef FONT_TYPES_H
@@ -1103,14 +1105,14 @@ FTY_API_PURE fty_matrix fty_matrix_product(fty_matrix a, fty_matrix b) FTY_API_N
  * exact one, and y at most (|a.yx| + |a.yy|) / 65536 + 1, all as raw values. (This is
  * proved of the two calls: `in_turn` in crates/font_c/src/laws.rt.)
  */
-FTY_API_PURE fty_point fty_matrix_image(fty_matrix m, fty_point p) FTY_API_NOEXCEPT;
+FTY_API_PURE fty_point fty_matrix_transform_point(fty_matrix m, fty_point p) FTY_API_NOEXCEPT;
 
 /** Transforms a vector, without the translation. */
-FTY_API_PURE fty_point fty_matrix_vector(fty_matrix m, fty_point v) FTY_API_NOEXCEPT;
+FTY_API_PURE fty_point fty_matrix_transform_vector(fty_matrix m, fty_point v) FTY_API_NOEXCEPT;
 
-/** Transforms points in place, each as fty_matrix_image does. */
-void fty_matrix_images(const fty_matrix *m, fty_point *points,
-                       size_t count) FTY_API_NOEXCEPT;
+/** Transforms points in place, each as fty_matrix_transform_point does. */
+void fty_matrix_transform_points(
+    const fty_matrix *m, fty_point *points, size_t count) FTY_API_NOEXCEPT;
 
 /* ---- sums of deltas: scalars are 16.16, deltas font units, sums 48.16 ---- */
 
@@ -1208,9 +1210,9 @@ enum { FTY_DECIMAL_ROOM = 24 };
 
 /** The alignment of padded text. */
 typedef enum fty_align FTY_API_OF_32_BITS {
-    FTY_LEFT = 0,   /**< fill on the right */
-    FTY_CENTER = 1, /**< fill on both sides; an odd fill byte goes on the right */
-    FTY_RIGHT = 2   /**< fill on the left */
+    FTY_ALIGN_LEFT = 0,   /**< fill on the right */
+    FTY_ALIGN_CENTER = 1, /**< fill on both sides; an odd fill byte goes on the right */
+    FTY_ALIGN_RIGHT = 2   /**< fill on the left */
 } fty_align;
 
 /** How to pad a decimal. No version 1.n adds a member: more would be a new type, with new calls. */
@@ -1224,7 +1226,7 @@ typedef struct fty_pad {
 } fty_pad;
 
 /** Right-aligned in `WIDTH` bytes, filled with spaces. */
-#define FTY_PAD_INIT(WIDTH) {(WIDTH), ' ', FTY_RIGHT, 0, 0}
+#define FTY_PAD_INIT(WIDTH) {(WIDTH), ' ', FTY_ALIGN_RIGHT, 0, 0}
 
 /** The export of fty_format, which writes no NUL. */
 FTY_API_MUST_USE fty_status fty_abi_format(

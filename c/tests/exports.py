@@ -169,20 +169,20 @@ def check_deltas(scalars: list[int], deltas: list[int], units: list[int]) -> Non
 
 def check_matrices(m: list[int], points: list[tuple[int, int]]) -> None:
     product = export("matrix_product", Matrix, Matrix, Matrix)
-    of_point = export("matrix_image", Point, Matrix, Point)
-    of_vector = export("matrix_vector", Point, Matrix, Point)
-    in_place = export("matrix_images", None, POINTER(Matrix), POINTER(Point), c_size_t)
+    of_point = export("matrix_transform_point", Point, Matrix, Point)
+    of_vector = export("matrix_transform_vector", Point, Matrix, Point)
+    in_place = export("matrix_transform_points", None, POINTER(Matrix), POINTER(Point), c_size_t)
     squared = [*image(m, m[0], m[1], False), *image(m, m[2], m[3], False), *image(m, m[4], m[5])]
     found = product(Matrix(*m), Matrix(*m))
     check("matrix_product", [getattr(found, f"at_{it}") for it in range(6)], squared)
     array = (Point * len(points))(*points)
     in_place(byref(Matrix(*m)), array, len(points))
     for it, moved in zip(points, array):
-        check("matrix_images", (moved.x, moved.y), image(m, *it))
+        check("matrix_transform_points", (moved.x, moved.y), image(m, *it))
         found = of_point(Matrix(*m), Point(*it))
-        check("matrix_image", (found.x, found.y), image(m, *it))
+        check("matrix_transform_point", (found.x, found.y), image(m, *it))
         found = of_vector(Matrix(*m), Point(*it))
-        check("matrix_vector", (found.x, found.y), image(m, *it, False))
+        check("matrix_transform_vector", (found.x, found.y), image(m, *it, False))
 
 
 def main() -> int:

@@ -42,7 +42,7 @@ static void check(const char *name, int32_t ours, FT_Long theirs, int32_t x, int
                (int)theirs);
 }
 
-/* Two points by a random matrix, as FT_Outline_Transform and fty_matrix_images move them. */
+/* Two points by a random matrix, as FT_Outline_Transform moves them. */
 static void check_outline(int32_t x, int32_t y) {
     const FT_Matrix a = {any(), any(), any(), any()};
     const fty_matrix m = {(int32_t)a.xx, (int32_t)a.yx, (int32_t)a.xy, (int32_t)a.yy, 0, 0};
@@ -50,10 +50,10 @@ static void check_outline(int32_t x, int32_t y) {
     fty_point points[] = {{x, y}, {y, x}};
     FT_Outline outline = {0, 2, vectors, NULL, NULL, 0};
     FT_Outline_Transform(&outline, &a);
-    fty_matrix_images(&m, points, 2);
+    fty_matrix_transform_points(&m, points, 2);
     for (int i = 0; i < 2; i++) {
-        check("images.x", points[i].x, vectors[i].x, x, y, i);
-        check("images.y", points[i].y, vectors[i].y, x, y, i);
+        check("points.x", points[i].x, vectors[i].x, x, y, i);
+        check("points.y", points[i].y, vectors[i].y, x, y, i);
     }
 }
 
@@ -91,7 +91,7 @@ int main(int count, char **arguments) {
         check("product.xy", c.xy, b.xy, x, y, z);
         check("product.yy", c.yy, b.yy, x, y, z);
         FT_Vector v = {x, y};
-        fty_point p = fty_matrix_vector(m, (fty_point){x, y});
+        fty_point p = fty_matrix_transform_vector(m, (fty_point){x, y});
         FT_Vector_Transform(&v, &a);
         check("vector.x", p.x, v.x, x, y, z);
         check("vector.y", p.y, v.y, x, y, z);

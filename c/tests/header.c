@@ -219,7 +219,7 @@ static void values_of_opentype(void) {
     volatile uint32_t later = UINT32_MAX;
     STATE(strcmp(fty_status_text((fty_status)later), "unknown status") == 0);
     const fty_pad pad = FTY_PAD_INIT(6);
-    STATE(pad.width == 6 && pad.fill == ' ' && pad.align == FTY_RIGHT && pad.plus == 0
+    STATE(pad.width == 6 && pad.fill == ' ' && pad.align == FTY_ALIGN_RIGHT && pad.plus == 0
           && pad.zeros == 0);
 }
 

@@ -69,8 +69,8 @@ constants=$(c++ -std=c++14 -x c++ -E -P include/font_types.h | tr '\n' ' ' |
 run_only=$(echo "$calling"$'\n'fty_{put,write}_bytes | tr ' ' '\n' | sort)
 is "$constants" "$(comm -23 <(echo "$inline") <(echo "$run_only"))" constexpr 'in C'
 
-# Each function is noexcept, and each but fty_matrix_images and fty_poke_* warns of a result that
-# is ignored.
+# Each function is noexcept, and each but fty_matrix_transform_points and fty_poke_* warns of a
+# result that is ignored.
 is "$(grep -o '\bfty_[a-z0-9_]*(' <<<"$text" | grep -v '^fty_api_' | names)" \
     "$(sort -u <<<"$declared"$'\n'"$inline")" "$declares" noexcept
 # Calls of functions, each by a function of the same parameters: as they are or, wrong, with each

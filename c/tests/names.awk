@@ -122,7 +122,7 @@ name ~ /^((read|take|put|write|peek|poke)_)?[a-z][0-9]+$/ {
 # What can fail.
 name ~ /(^|_)checked_/ && result != "fty_status" { broken("checked") }
 (result == "fty_status") != (stores || name ~ /^(put|write)_/) && last !~ /\*(rest|at)$/ \
-    && parameter[1] !~ /\*(rest|at)$/ && name != "matrix_images" {
+    && parameter[1] !~ /\*(rest|at)$/ && name != "matrix_transform_points" {
     broken("status")
 }
 

@@ -139,11 +139,11 @@ static const struct {
     const char *text;
 } pads[] = {
     {FTY_PAD_INIT(6), FTY_OK, "   1.5"},
-    {{6, 0, FTY_LEFT, 0, 0}, FTY_OK, "1.5   "},
-    {{13, 0x7F, FTY_CENTER, 2, 0}, FTY_OK, "\x7F\x7F\x7F\x7F+1.5\x7F\x7F\x7F\x7F\x7F"},
-    {{7, '#', FTY_LEFT, 0, 128}, FTY_OK, "00001.5"},
-    {{6, '\n', FTY_RIGHT, 0, 0}, FTY_OK, "\n\n\n1.5"},
-    {{30, '#', FTY_RIGHT, 0, 0}, FTY_OK, "###########################1.5"},
+    {{6, 0, FTY_ALIGN_LEFT, 0, 0}, FTY_OK, "1.5   "},
+    {{13, 0x7F, FTY_ALIGN_CENTER, 2, 0}, FTY_OK, "\x7F\x7F\x7F\x7F+1.5\x7F\x7F\x7F\x7F\x7F"},
+    {{7, '#', FTY_ALIGN_LEFT, 0, 128}, FTY_OK, "00001.5"},
+    {{6, '\n', FTY_ALIGN_RIGHT, 0, 0}, FTY_OK, "\n\n\n1.5"},
+    {{30, '#', FTY_ALIGN_RIGHT, 0, 0}, FTY_OK, "###########################1.5"},
     {{4, 0x80, 2, 0, 1}, FTY_BAD_PAD, ""},
     {{4, ' ', 3, 0, 0}, FTY_BAD_PAD, ""},
 };
@@ -191,7 +191,7 @@ static void check_decimals(void) {
     named.zeros = 1;
     check_written("named", 1, padded(98304, 16, &named, BUFFER), "+001.5");
     check_written("named", 2, padded(-98304, 16, &named, BUFFER), "-001.5");
-    named.zeros = 0, named.align = FTY_LEFT, named.fill = '*';
+    named.zeros = 0, named.align = FTY_ALIGN_LEFT, named.fill = '*';
     check_written("named", 3, padded(98304, 16, &named, BUFFER), "+1.5**");
     const fty_fraction fractions[] = {FTY_F2DOT14, FTY_F4DOT12, FTY_F6DOT10, FTY_FIXED,
                                       FTY_F26DOT6, FTY_F2DOT30, FTY_F48DOT16};
@@ -263,17 +263,17 @@ static void check_matrices(void) {
     check("product", 3, product.yy, -494739248);
     check("product", 4, product.dx, 1630468099);
     check("product", 5, product.dy, 883029838);
-    check_point("image", fty_matrix_image(a, p), -109377813, -272076778);
-    check_point("vector", fty_matrix_vector(a, p), -212556444, -280954311);
+    check_point("point", fty_matrix_transform_point(a, p), -109377813, -272076778);
+    check_point("vector", fty_matrix_transform_vector(a, p), -212556444, -280954311);
     fty_point points[1000] = {{98304, -98304}, {0, 0}};
     for (size_t i = 1; i < COUNT(points); i++)
         points[i].x = 10, points[i].y = 100;
     const fty_matrix m = {65536, 131072, 196608, 262144, 5, 7};
-    fty_matrix_images(&m, points, COUNT(points) - 1);
-    check_point("images", points[0], -196603, -196601);
-    check_point("images", points[1], 315, 427);
-    check_point("images", points[998], 315, 427);
-    check_point("no image", points[999], 10, 100);
+    fty_matrix_transform_points(&m, points, COUNT(points) - 1);
+    check_point("points", points[0], -196603, -196601);
+    check_point("points", points[1], 315, 427);
+    check_point("points", points[998], 315, 427);
+    check_point("no point", points[999], 10, 100);
 }
 
 /* ---- sums of deltas ---- */
@@ -420,7 +420,7 @@ static void check_nulls(void) {
     check_result("null deltas", 0, sum_of_deltas(of(NULL, 0), of(NULL, 0)), FTY_OK, 0);
     check_result("null set", 0, sum_of_set(of(NULL, 0), bytes(NULL, 0), 0), FTY_OK, 0);
     check_result("null tag", 0, new_tag(NULL, 0), FTY_TAG_LENGTH, 0);
-    fty_matrix_images(&identity, NULL, 0);
+    fty_matrix_transform_points(&identity, NULL, 0);
 }
 
 int main(int count, char **arguments) {

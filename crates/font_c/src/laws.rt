@@ -5,7 +5,7 @@ ghost use Rattle.font_types.specs.FixedMatrix.{FitsComposed, IsCloseComposed, Fi
 ghost use Rattle.font_types.specs.FixedMatrix.{IsCloseInTurn};
 ghost use Rattle.font_c.specs.Matrices.{coordinates, entries, fixed_image, fixed_matrix_product};
 
-use crate::matrix::{FontMatrix, FontPoint, fty_matrix_image, fty_matrix_product};
+use crate::matrix::{FontMatrix, FontPoint, fty_matrix_product, fty_matrix_transform_point};
 
 /// Transforms a point by the product of `a` and `b`.
 ///
@@ -18,7 +18,7 @@ pub fn composed(a: FontMatrix, b: FontMatrix, p: FontPoint) -> FontPoint
     ensures close { FitsComposed (entries a) (entries b) (coordinates p)
         → IsCloseComposed (entries a) (entries b) (coordinates p) (coordinates result) }
 {
-    fty_matrix_image(fty_matrix_product(a, b), p)
+    fty_matrix_transform_point(fty_matrix_product(a, b), p)
 }
 
 /// Transforms a point by `b`, and the result by `a`.
@@ -32,5 +32,5 @@ pub fn in_turn(a: FontMatrix, b: FontMatrix, p: FontPoint) -> FontPoint
     ensures close { FitsInTurn (entries a) (entries b) (coordinates p)
         → IsCloseInTurn (entries a) (entries b) (coordinates p) (coordinates result) }
 {
-    fty_matrix_image(a, fty_matrix_image(b, p))
+    fty_matrix_transform_point(a, fty_matrix_transform_point(b, p))
 }

@@ -90,27 +90,27 @@ pub extern "C" fn fty_matrix_product(a: FontMatrix, b: FontMatrix) -> FontMatrix
 /// Transforms a point.
 #[unsafe(no_mangle)]
 #[tactic(auto, using(font_types::proofs::Callers::image_value))]
-pub extern "C" fn fty_matrix_image(m: FontMatrix, p: FontPoint) -> FontPoint
+pub extern "C" fn fty_matrix_transform_point(m: FontMatrix, p: FontPoint) -> FontPoint
     ensures { coordinates result ≡ fixed_image (entries m) (coordinates p) }
 {
     (Matrix::from(m) * Point::from(p)).into()
 }
 
-/// Transforms a vector: as `fty_matrix_image`, without the translation.
+/// Transforms a vector: as `fty_matrix_transform_point`, without the translation.
 #[unsafe(no_mangle)]
 #[tactic(auto, using(font_types::proofs::Callers::image_value))]
-pub extern "C" fn fty_matrix_vector(m: FontMatrix, v: FontPoint) -> FontPoint
+pub extern "C" fn fty_matrix_transform_vector(m: FontMatrix, v: FontPoint) -> FontPoint
     ensures { coordinates result ≡ fixed_image (linear_part (entries m)) (coordinates v) }
 {
-    fty_matrix_image(FontMatrix { dx: 0, dy: 0, ..m }, v)
+    fty_matrix_transform_point(FontMatrix { dx: 0, dy: 0, ..m }, v)
 }
 
-/// Transforms points in place, each as `fty_matrix_image` does.
+/// Transforms points in place, each as `fty_matrix_transform_point` does.
 #[unsafe(no_mangle)]
-pub extern "C" fn fty_matrix_images(m: &FontMatrix, points: &mut [FontPoint])
+pub extern "C" fn fty_matrix_transform_points(m: &FontMatrix, points: &mut [FontPoint])
     ensures { TransformsEach (entries m.now) points.old points.new }
 {
     for p in points.iter_mut() {
-        *p = fty_matrix_image(*m, *p);
+        *p = fty_matrix_transform_point(*m, *p);
     }
 }

@@ -90,9 +90,9 @@ for m, n in zip(ENTRIES[::2], ENTRIES[1::2]):
 point = lambda call: "{{ let it = unsafe {{ {}({}, FontPoint {{ x, y }}) }}; {} }}".format(
     call, matrix("a"), both.format("x", "y"))
 given = f"{entries('a')}, x: i32, y: i32"
-case("fty_matrix_image(m, p)", given, "u64", point("fty_matrix_image"),
+case("fty_matrix_transform_point(m, p)", given, "u64", point("fty_matrix_transform_point"),
      lambda p, *v: z3.Concat(*image(p, *v)))
 # A vector is not shifted.
-case("fty_matrix_vector(m, v)", given, "u64", point("fty_matrix_vector"),
+case("fty_matrix_transform_vector(m, v)", given, "u64", point("fty_matrix_transform_vector"),
      lambda p, *v: z3.Concat(*image(p, *v[:4], z3.BitVecVal(0, 32), z3.BitVecVal(0, 32), *v[6:])))
 # fmt: on

@@ -2,7 +2,9 @@
 
 //! The bounds of matrices, as contracts of functions that make two calls of exports.
 
-use crate::font_c::matrix::{FontMatrix, FontPoint, fty_matrix_image, fty_matrix_product};
+use crate::font_c::matrix::{
+    FontMatrix, FontPoint, fty_matrix_product, fty_matrix_transform_point,
+};
 
 /// Transforms a point by the product of `a` and `b`.
 ///
@@ -10,7 +12,7 @@ use crate::font_c::matrix::{FontMatrix, FontPoint, fty_matrix_image, fty_matrix_
 /// most `(|p.x| + |p.y|) / 65536 + 2` from the exact one, all as raw values.
 #[must_use]
 pub fn composed(a: FontMatrix, b: FontMatrix, p: FontPoint) -> FontPoint {
-    fty_matrix_image(fty_matrix_product(a, b), p)
+    fty_matrix_transform_point(fty_matrix_product(a, b), p)
 }
 
 /// Transforms a point by `b`, and the result by `a`.
@@ -19,5 +21,5 @@ pub fn composed(a: FontMatrix, b: FontMatrix, p: FontPoint) -> FontPoint {
 /// the exact one, and `y` at most `(|a.yx| + |a.yy|) / 65536 + 1`, all as raw values.
 #[must_use]
 pub fn in_turn(a: FontMatrix, b: FontMatrix, p: FontPoint) -> FontPoint {
-    fty_matrix_image(a, fty_matrix_image(b, p))
+    fty_matrix_transform_point(a, fty_matrix_transform_point(b, p))
 }

@@ -72,25 +72,25 @@ pub extern "C" fn fty_matrix_product(a: FontMatrix, b: FontMatrix) -> FontMatrix
 
 /// Transforms a point.
 #[unsafe(no_mangle)]
-pub extern "C" fn fty_matrix_image(m: FontMatrix, p: FontPoint) -> FontPoint {
+pub extern "C" fn fty_matrix_transform_point(m: FontMatrix, p: FontPoint) -> FontPoint {
     (Matrix::from(m) * Point::from(p)).into()
 }
 
-/// Transforms a vector: as `fty_matrix_image`, without the translation.
+/// Transforms a vector: as `fty_matrix_transform_point`, without the translation.
 #[unsafe(no_mangle)]
-pub extern "C" fn fty_matrix_vector(m: FontMatrix, v: FontPoint) -> FontPoint {
-    fty_matrix_image(FontMatrix { dx: 0, dy: 0, ..m }, v)
+pub extern "C" fn fty_matrix_transform_vector(m: FontMatrix, v: FontPoint) -> FontPoint {
+    fty_matrix_transform_point(FontMatrix { dx: 0, dy: 0, ..m }, v)
 }
 
-/// Transforms points in place, each as `fty_matrix_image` does.
+/// Transforms points in place, each as `fty_matrix_transform_point` does.
 #[unsafe(no_mangle)]
-pub unsafe extern "C" fn fty_matrix_images(
+pub unsafe extern "C" fn fty_matrix_transform_points(
     m: &FontMatrix,
     points: *mut FontPoint,
     points_len: usize,
 ) {
     let points = unsafe { crate::slice_mut(points, points_len) };
     for p in points.iter_mut() {
-        *p = fty_matrix_image(*m, *p);
+        *p = fty_matrix_transform_point(*m, *p);
     }
 }

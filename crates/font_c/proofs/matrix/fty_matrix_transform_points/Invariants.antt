@@ -1,6 +1,6 @@
 use Rattle.std.proofs.Common.{◌≡◌, ◌<◌, ◌≤◌, ℕ, length}
 use Rattle.font_c.specs.Matrices.{coordinates, entries, fixed_image, point_at}
-use Rattle.font_c.proofs.matrix.fty_matrix_images.Given as goal
+use Rattle.font_c.proofs.matrix.fty_matrix_transform_points.Given as goal
 
 abbrev pub invariant-loop-p : goal.invariant-loop-p
 invariant-loop-p l =
