@@ -11,7 +11,7 @@
  *     views         fty_{absent,first,items,from,follow}  fty_at_offset{16,24,32}
  *     fields        fty_{u8,i8,u16,i16,u24,u32,i32,i64,uint}
  *       checked     fty_read_{u8,i8,u16,i16,u24,u32,i32,i64,uint}
- *       in turn     fty_take_{u8,i8,u16,i16,u24,u32,i32,i64}  fty_take
+ *       in turn     fty_take_{u8,i8,u16,i16,u24,u32,i32,i64}  fty_take  fty_skip
  *       at pointers fty_{peek,poke}_{u16,i16,u24,u32,i32,i64}
  *     written       fty_write_{u8,i8,u16,i16,u24,u32,i32,i64,uint,bytes,offset16,offset24,offset32}
  *       in turn     fty_put_{u8,i8,u16,i16,u24,u32,i32,i64,bytes,zeros_to_4}
@@ -66,8 +66,8 @@
  *   gives.
  * - Each integer type of OpenType has all functions of fields, but u8 and i8 have no "peek" and
  *   "poke". No other type has any. ("uint" is all 1 to 4 bytes of a part.)
- * - "read" leaves a view where it is, and "take" moves a view or a span past what is taken. "write"
- *   leaves a span where it is, and "put" moves it past what is written.
+ * - "read" leaves a view where it is, "take" moves a view or a span past what is taken, and "skip" a
+ *   view. "write" leaves a span where it is, and "put" moves it past what is written.
  * - "parse" is from text, and "format" is to text.
  * - "checked" means, as in Rust, that the function fails, by FTY_OUT_OF_RANGE, where its sum, its
  *   rounding or its conversion does not fit.
@@ -552,6 +552,14 @@ FTY_API_INLINE fty_view fty_take(fty_view *rest, size_t length) FTY_API_NOEXCEPT
         return fty_absent();
     *rest = fty_from(all, length);
     return fty_first(all, length);
+}
+
+/** Moves a view past its first `length` bytes. Fails by FTY_OUT_OF_BOUNDS, and the view stays. */
+FTY_API_INLINE fty_status fty_skip(fty_view *rest, size_t length) FTY_API_NOEXCEPT {
+    if (length > rest->length)
+        return FTY_OUT_OF_BOUNDS;
+    *rest = fty_from(*rest, length);
+    return FTY_OK;
 }
 
 /** Takes a uint8. Fails by FTY_OUT_OF_BOUNDS, and the view stays. */

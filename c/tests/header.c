@@ -77,6 +77,10 @@ static void values_of_opentype(void) {
     STATE(fty_follow(subtable, 8).bytes == bytes + 8 && fty_follow(subtable, 0).bytes == NULL);
     STATE(range.bytes == bytes + 12 && range.length == 6 && fty_u16(range, 2) == 444);
     STATE(fty_from(subtable, 18).bytes == bytes + 18 && fty_from(subtable, 19).bytes == NULL);
+    fty_view left = subtable;
+    STATE(fty_skip(&left, 8) == FTY_OK && left.bytes == coverage.bytes && left.length == 10
+          && fty_skip(&left, 11) == FTY_OUT_OF_BOUNDS && left.length == 10
+          && fty_skip(&left, 10) == FTY_OK && left.bytes == bytes + 18 && left.length == 0);
     STATE(fty_at_offset16(subtable, 16).bytes == NULL && fty_u24(subtable, 16) == 0);
     STATE(fty_at_offset24(subtable, 16).bytes == NULL && fty_at_offset32(range, 4).bytes == NULL);
     /* In either order; at the end; of no bytes; and one item too many, or one byte. */

@@ -107,7 +107,7 @@ name ~ /^((read|take|put|write|peek|poke)_)?[a-z][0-9]+$/ {
 }
 
 # What moves, and what does not.
-(given ~ /^fty_(view|span) \*rest/) != (name ~ /^(take|put|span_take)(_|$)/) \
+(given ~ /^fty_(view|span) \*rest/) != (name ~ /^(take|skip|put|span_take)(_|$)/) \
     || given ~ /fty_(view|span) \*[^r]/ || (name ~ /^write_/ && given !~ /^fty_span [a-z]/) \
     || (name ~ /^read_/ && given !~ /^fty_view [a-z]/) {
     broken("moves")

@@ -104,6 +104,14 @@ taken("take", ", n: size", "it = fty_take(&rest, n).length",
 always("take, absent", "n: size", "bool",
        "({ fty_view rest = fty_absent(); const fty_view it = fty_take(&rest, n);"
        f" {IS_ABSENT.format('it')} && {IS_ABSENT.format('rest')}; }})", 1)
+row("skip", "text: bytes, n: size", "u32",
+    "({ fty_view rest = view; (uint32_t)fty_skip(&rest, n); })",
+    lambda p, text, n: status(z3.ULE(n, text.length)))
+taken("skip", ", n: size", "(void)!fty_skip(&rest, n)",
+      lambda text, n: (z3.ULE(n, text.length), n))
+always("skip, absent", "n: size", "bool",
+       "({ fty_view rest = fty_absent(); const fty_status it = fty_skip(&rest, n);"
+       f" it == (n == 0 ? FTY_OK : FTY_OUT_OF_BOUNDS) && {IS_ABSENT.format('rest')}; }})", 1)
 
 
 # ---------------------------------------------------------------- fields that are written
