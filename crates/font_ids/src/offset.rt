@@ -322,11 +322,15 @@ pub trait OffsetValue: Copy {
     /// offset is null or past the end. A field that may be null is a [`Nullable`], whose `get` is
     /// `None` if it is: of what `get` returns, `None` here means past the end.
     ///
+    /// The offset of a string in `name`, or of a glyph in `loca` or `gvar`, is not null if it is 0.
+    /// There, call `get` of the slice:
+    ///
     /// ```
     /// use font_types::{Offset16, OffsetValue};
     /// let table = [0, 4, 9, 9, 1, 2];
     /// assert_eq!(Offset16::new(4).follow(&table), Some(&[1, 2][..]));
     /// assert_eq!(Offset16::new(0).follow(&table), None);
+    /// assert_eq!(table.get(Offset16::new(0).to_usize()..), Some(&table[..]));
     /// assert_eq!(Offset16::new(7).follow(&table), None);
     /// ```
     fn follow(self, table: &[u8]) -> Option<&[u8]>
