@@ -93,6 +93,7 @@ fn write_glyph<W: fmt::Write>(f: &mut fmt::Formatter<W>, number: u32) -> fmt::Re
     f.write_str(Shortest::new(i64::from(number), 0).as_str())
 }
 
+/// Writes `GID_` and the number.
 impl fmt::Display for GlyphId16 {
     ghost output = { λ id. Some (glyph_text (glyph16_number id)) };
 
@@ -241,6 +242,7 @@ impl GlyphId24 {
     }
 }
 
+/// Writes `GID_` and the number.
 impl fmt::Display for GlyphId24 {
     ghost output = { λ id. Some (glyph_text (glyph24_number id)) };
 
@@ -366,6 +368,7 @@ impl GlyphId {
     }
 }
 
+/// Writes `GID_` and the number.
 impl fmt::Display for GlyphId {
     ghost output = { λ id. Some (glyph_text (glyph_number id)) };
 

@@ -287,6 +287,7 @@ impl Default for Tag {
     }
 }
 
+/// Writes the bytes from 0x20 to 0x7E as they are, and any other in braces, such as `{0x1F}`.
 impl fmt::Display for Tag {
     ghost output = { λ tag. Some (tag_text (tag_bytes tag)) };
 

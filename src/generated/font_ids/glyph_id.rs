@@ -150,6 +150,8 @@ fn write_glyph(f: &mut fmt::Formatter<'_>, number: u32) -> fmt::Result {
     f.write_str(Shortest::new(i64::from(number), 0).as_str())
 }
 
+/// Writes `GID_` and the number.
+///
 /// <details><summary>Contract</summary>
 ///
 /// ```text
@@ -382,6 +384,8 @@ impl GlyphId24 {
     }
 }
 
+/// Writes `GID_` and the number.
+///
 /// <details><summary>Contract</summary>
 ///
 /// ```text
@@ -571,6 +575,8 @@ impl GlyphId {
     }
 }
 
+/// Writes `GID_` and the number.
+///
 /// <details><summary>Contract</summary>
 ///
 /// ```text

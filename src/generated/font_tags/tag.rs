@@ -396,6 +396,8 @@ impl Default for Tag {
     }
 }
 
+/// Writes the bytes from 0x20 to 0x7E as they are, and any other in braces, such as `{0x1F}`.
+///
 /// <details><summary>Contract</summary>
 ///
 /// ```text
