@@ -268,10 +268,7 @@ fn padded_texts() {
 // ---- scalars and arrays
 
 /// Asserts that the value has these bytes, as a scalar, a field and an element of an array.
-fn assert_stored<T: Scalar + Copy + PartialEq + Debug>(value: T, bytes: &[u8])
-where
-    T::Raw: ByteChunks,
-{
+fn assert_stored<T: Scalar<Raw: ByteChunks> + Copy + PartialEq + Debug>(value: T, bytes: &[u8]) {
     let (len, after) = (bytes.len(), [&[7], bytes].concat());
     assert_eq!((T::RAW_BYTE_LEN, value.to_raw().as_slice()), (len, bytes), "{value:?}");
     assert_eq!([T::read(bytes), T::read(&after), T::read(&bytes[1..])], [Some(value), None, None]);

@@ -105,10 +105,7 @@ impl<const N: usize> BeByteArray for [u8; N] {
 ///
 /// ```
 /// use font_types::{ByteChunks, Scalar, ScalarArray};
-/// fn first<T: Scalar>(data: &[u8]) -> Option<T>
-/// where
-///     T::Raw: ByteChunks,
-/// {
+/// fn first<T: Scalar<Raw: ByteChunks>>(data: &[u8]) -> Option<T> {
 ///     ScalarArray::<T>::new(data)?.first()
 /// }
 /// assert_eq!(first::<u16>(&[1, 0, 2, 0]), Some(256));
