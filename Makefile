@@ -27,9 +27,10 @@ check:
 with = @unset MAKEFLAGS MFLAGS MAKELEVEL; missing=$$(for it in $(1); do command -v $$it >/dev/null || echo $$it; done | paste -sd ' ')
 with += ; [[ -z $$missing ]] || { echo "left out: $@, which needs $$missing"; exit 0; }
 
-# Ends a step in files that are no clone, as those of an archive, also inside of another clone.
-cloned = [[ -z $$(git rev-parse --show-cdup 2>&1) ]] ||
-cloned += { echo "left out: $@, which needs a clone by git"; exit 0; }
+# Ends a step in files that are no clone, as those of an archive, also inside of another clone. If git
+# refuses a clone, as it does where another user owns it, git's reason is shown.
+cloned = [[ -z $$(git rev-parse --show-cdup 2>&1) ]] || { [[ ! -e .git ]] || git rev-parse 2>&1 || true;
+cloned += echo "left out: $@, which needs a clone by git"; exit 0; }
 
 rust:
 	$(call with,cargo cc rustdoc)

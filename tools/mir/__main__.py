@@ -68,7 +68,7 @@ def run(options: set[str]) -> int:
     of = "what `rt` left here" if is_left else f"the copy in {PLACE}, of {copy['of']}"
     tree = kept.tree(ROOT)
     is_other = not is_left and not (tree and copy["of"].endswith(tree))
-    other = ", not of this tree" if tree else "; without git, nobody says if that is this tree"
+    other = ", not of this tree" if tree else "; git does not say if that is this tree"
     print(f"the MIR that was proved is {of}{other if is_other else ''}")
     rustc = subprocess.run(["rustc", "--version"], capture_output=True, text=True, check=True)
     print(f"the MIR of Rust is by {rustc.stdout}", end="")
