@@ -89,7 +89,7 @@ for part in 'a-cargo build --release --target-dir "a-folder" --a-flag' 'a-cc -sh
     has "$commands" "$part"
 done
 is "$(make -n clean)" 'rm -rf "target" shared static'
-is "$(make -n check CC=a-cc CXX=a-c++ CARGO=a-cargo)" \
+is "$(make -n check CC=a-cc CXX=a-c++ CARGO=a-cargo | tail -n 1)" \
     'BUILT="$(realpath -- "target")" CARGO="a-cargo" CC="a-cc" CXX="a-c++" ./check'
 fails make check BUILD="$work/none"
 has "$(<"$work/log")" 'run make first'
@@ -97,7 +97,9 @@ has "$(<"$work/log")" 'run make first'
 # Uninstall leaves no file but those of others. Two jobs do not install what is not built yet.
 mkdir -p "$work/dest/usr/include" "$work/dest/usr/lib/pkgconfig"
 touch "$work"/dest/usr/{include/other.h,lib/libother.a,lib/pkgconfig/other.pc}
-"${empty[@]}" make -s -j2 all install CARGOFLAGS=--quiet DESTDIR="$work/dest" PREFIX=/usr
+ln -s "$PWD/target" "$work/a build"
+"${empty[@]}" make -s -j2 all install BUILD="$work/a build" CARGOFLAGS=--quiet \
+    DESTDIR="$work/dest" PREFIX=/usr
 make -s uninstall DESTDIR="$work/dest" PREFIX=/usr
 found=$(find "$work/dest" ! -type d -printf '%f\n' | sort | tr '\n' ' ')
 is "$found" 'libother.a other.h other.pc '
