@@ -24,7 +24,8 @@ macro_rules! one_of_each_width {
             let wrapped = [x.round(), x.ceil(), -x, (-x).abs(), x + y, sum, x - z, difference];
             let [more, less] = [$bits::MIN + half - 1, $bits::MIN + half];
             let right = [2 * half, 2 * half, -half, half, more, more, less, less];
-            assert_eq!(wrapped.map($Type::to_bits), right);
+            let calls = "round, ceil, -, abs, +, +=, - and -=";
+            assert_eq!(wrapped.map($Type::to_bits), right, "{calls}");
             assert_eq!([x.saturating_add(y), z.saturating_sub(x)], [y, z]);
             let checked = [
                 (x.checked_round(), y.checked_round(), 2 * half),
