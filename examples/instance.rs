@@ -148,7 +148,8 @@ fn main() -> Result<(), Box<dyn std::error::Error>> {
     let usage = "cargo run --example instance -- FONT TEXT 36 37 wght=600 wdth=87.5";
     let mut words = std::env::args().skip(1);
     let bytes = std::fs::read(words.next().ok_or(usage)?)?;
-    let text = words.next().ok_or(usage)?;
+    // A setting in the place of TEXT would be taken for characters, at the default of each axis.
+    let text = words.next().filter(|word| word.parse::<Setting>().is_err()).ok_or(usage)?;
     let font = Font::new(&bytes).ok_or("no font of one face")?;
     let axes = axes(&font)?;
     let (glyphs, words): (Vec<_>, Vec<_>) = words.partition(|word| word.parse::<u16>().is_ok());
