@@ -147,7 +147,8 @@ fn reads_that_cut_lines() {
     }
 }
 
-// Also at each place of a block of 16,384 bytes, with lines of 0, 1 and 16,384 bytes.
+// Also at the ends of a block of 16,384 bytes and at places between, with lines of 0, 1 and 16,384
+// bytes.
 #[test]
 fn reads_that_cut_blocks() {
     let block = format!("uint8{:>16379}", "7f");
@@ -155,7 +156,7 @@ fn reads_that_cut_blocks() {
         [("", "error 1\nerror 1\n127\n"), ("\n\n", "error 1\nerror 1\n127\nerror 1\n")]
     {
         let lines = ["\na\n", &block, end].concat();
-        for cut in 0..=16384 {
+        for cut in (0..64).chain((64..16320).step_by(127)).chain(16320..=16384) {
             let (front, back) = lines.as_bytes().split_at(cut);
             let mut taken = [0; 40];
             let mut sink = FromWrite::new(&mut taken[..]);
