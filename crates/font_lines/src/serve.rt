@@ -130,6 +130,11 @@ fn last_line_feed_at(bytes: &[u8]) -> Option<usize>
     ensures some { IfSome result (IsLastEnd bytes.now) }
     ensures none { result ≡ None → HasNoEnd bytes.now }
 {
+    // In a block of a long line, std searches many bytes at a time.
+    let line_feed = b'\n';
+    if !bytes.contains(&line_feed) {
+        return None;
+    }
     bytes.iter().rposition(|byte| *byte == b'\n')
 }
 

@@ -95,6 +95,11 @@ fn append_ended<A: Allocator + Copy>(
 
 // Returns the index of the last line feed.
 fn last_line_feed_at(bytes: &[u8]) -> Option<usize> {
+    // In a block of a long line, std searches many bytes at a time.
+    let line_feed = b'\n';
+    if !bytes.contains(&line_feed) {
+        return None;
+    }
     bytes.iter().rposition(|byte| *byte == b'\n')
 }
 
