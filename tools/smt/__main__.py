@@ -1,9 +1,11 @@
 """Proves functions of the Rust in `src` for every argument, by rustc and the solver Z3.
 
-`python3 tools/smt [--checked] [--only PATTERN] [--jobs N] [--tree FOLDER] [--solver COMMAND]`
+`python3 tools/smt [--checked] [--target TARGET] [--only PATTERN] [--jobs N] [--tree FOLDER]
+[--solver COMMAND]`
 
 `--checked` compiles with checks of overflow and debug assertions, and so shows that none of them
-fails. Without it, the build has neither, like a release build. `--exhaustive` adds the rows of each
+fails. Without it, the build has neither, like a release build. `--target` compiles for another
+target, whose `std` rustc must have, and whose code is not run. `--exhaustive` adds the rows of each
 number of fraction bits. `--mutants` tries wrong Rust. `--solver` asks another solver, which reads
 SMT-LIB, of each goal and lemma that Z3 refutes, and of each term whether it is what Z3 simplified
 it to. It fails if that solver finds values, and names the rows and lemmas of which it decides
@@ -44,7 +46,7 @@ from proof import fault_of
 from state import ANSWERS, LIMIT, SECOND, ask, undecided, use_second
 
 # What the processes share: the options, the IR, the library, and the rows in groups.
-SHARED: tuple[argparse.Namespace, Module, ctypes.CDLL, list[list[table.Row]]]
+SHARED: tuple[argparse.Namespace, Module, ctypes.CDLL | None, list[list[table.Row]]]
 
 
 class Proved(NamedTuple):
@@ -76,12 +78,13 @@ def run(options: argparse.Namespace, room: Path) -> list[Proved]:
     """Proves the functions whose names have a pattern, in several processes."""
     global SHARED
     rows = [it for it in table.rows(options.exhaustive) if re.search(options.only, it.name)]
-    built = build(options.tree, room, table.wrappers(rows), options.checked)
+    built = build(options.tree, room, table.wrappers(rows), options.checked, options.target)
+    library = ctypes.CDLL(str(built.library)) if built.library else None
     module, groups = Module(built.ir), dict[Any, list[table.Row]]()
     for index, row in enumerate(rows):
         # LLVM makes one function of those with the same code.
         groups.setdefault(table.key(module, row) or index, []).append(row)
-    SHARED = options, module, ctypes.CDLL(str(built.library)), list(groups.values())
+    SHARED = options, module, library, list(groups.values())
     found: list[Proved] = []
     # A function that aborts ends its process, and with it the run.
     try:
@@ -93,7 +96,8 @@ def run(options: argparse.Namespace, room: Path) -> list[Proved]:
             for it in group:
                 print(it.shown, flush=True)
             found += group
-    print(f"the reader agrees with the processor on {sum(it.agreed for it in found)} arguments")
+    with_ = "processor" if library else "rules"
+    print(f"the reader agrees with the {with_} on {sum(it.agreed for it in found)} arguments")
     return found
 
 
@@ -102,6 +106,7 @@ def main() -> int:
     parser.add_argument("--tree", type=Path, default=ROOT)
     parser.add_argument("--only", default="")
     parser.add_argument("--checked", action="store_true")
+    parser.add_argument("--target", default="")
     parser.add_argument("--exhaustive", action="store_true")
     parser.add_argument("--jobs", type=int, default=os.cpu_count())
     parser.add_argument("--mutants", action="store_true")
@@ -139,7 +144,8 @@ def main() -> int:
         return 1
     kind = "checked" if options.checked else "release"
     proved, seconds = sum(not it.reason for it in found), sum(it.seconds for it in found)
-    count = f"{proved} of {len(found)} functions proved in the {kind} build, by {rustc}"
+    kind += options.target and f" build of {options.target}" or " build"
+    count = f"{proved} of {len(found)} functions proved in the {kind}, by {rustc}"
     print(f"{count}, {time.process_time() + seconds:.0f} s of processor")
     if SECOND:
         answers = sum((it.answers for it in found), answers)

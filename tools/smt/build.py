@@ -34,7 +34,7 @@ OPTIONS = """--crate-type cdylib -C opt-level=2 -C no-vectorize-loops -C no-vect
 
 class Built(NamedTuple):
     ir: str
-    library: Path
+    library: Path | None
 
 
 class Refusal(Exception):
@@ -72,6 +72,7 @@ def wrapper(case: Case) -> str:
     result, value = returned(case.returns, case.body)
     parameters, given = [], []
     for name, type_ in case.parameters:
+        type_ = {"size": "usize"}.get(type_, type_)
         if type_ in SLICES:
             way, mut = ("mut", "_mut") if type_ == "room" else ("const", "")
             pointer, of = f"*{way} {SLICES[type_]}", f"slice_of{mut}"
@@ -125,10 +126,13 @@ def compiled(tree: Path, room: Path, wrappers: str, options: list[str]) -> str:
     return (room / f"{CRATE}.ll").read_text()
 
 
-def build(tree: Path, room: Path, wrappers: str, checked: bool) -> Built:
+def build(tree: Path, room: Path, wrappers: str, checked: bool, target: str = "") -> Built:
     """Compiles as `cargo build --release` does or, checked, with checks of overflow and debug
-    assertions."""
+    assertions. Of another target than this machine's, no library is linked."""
     checks = [
         f"-C{it}={'on' if checked else 'off'}" for it in ("overflow-checks", "debug-assertions")
     ]
+    if target:
+        others = [{"cdylib": "lib", "llvm-ir,link": "llvm-ir"}.get(it, it) for it in OPTIONS]
+        return Built(compiled(tree, room, wrappers, [*others, *checks, "--target", target]), None)
     return Built(compiled(tree, room, wrappers, [*OPTIONS, *checks]), room / f"lib{CRATE}.so")

@@ -15,7 +15,7 @@ import steps
 from arithmetic import Arithmetic
 from ir import LABEL, NAME, Attributes, Function, Instruction, Module
 from ir import split_commas, take_attributes, take_type
-from memory import Memory, Objects, globals_of
+from memory import Cells, Memory, Objects, globals_of
 from state import Goals, State
 
 from values import (
@@ -69,6 +69,9 @@ class Machine:
     ) -> Iterator[End]:
         """Yields what each path returns."""
         function = self.module.functions[name]
+        if len(function.parameters) == len(arguments) + 1:
+            yield from self.run_of_place(name, arguments, memory, conditions)
+            return
         names: Names = {}
         first = next(iter(function.blocks))
         state = State(first, 0, "", names, {**self.globals, **memory}, list(conditions), {})
@@ -78,6 +81,16 @@ class Machine:
         while paths:
             with suppress(Ended):
                 yield from self.go_on(function, paths.pop(), paths)
+
+    def run_of_place(
+        self, name: str, arguments: Sequence[Value], memory: Objects, conditions: list[BoolRef]
+    ) -> Iterator[End]:
+        """Yields the 128 bits that a function stores where its first argument says (`sret`)."""
+        place, room = Address(self.name("%result"), constant(0)), Cells((None,) * 16, 16)
+        of_place = {**memory, str(place.object): room}
+        for end in self.run(name, [place, *arguments], of_place, conditions):
+            state = State("", 0, "", {}, end.memory, end.conditions, {})
+            yield end._replace(value=self.memory.load("i128", place, 16, state))
 
     def promised(self, value: Value, attributes: Attributes, state: State) -> Value:
         """`range`, `nonnull` and `align` make another value poison. `noundef` makes poison

@@ -21,6 +21,10 @@ PASSED_OVER = set(
     "dso_local unnamed_addr local_unnamed_addr".split()
 )
 ENDS = set("true false null undef poison zeroinitializer getelementptr inttoptr ptr void".split())
+# By the layout of the target, how many bytes an address has, and the alignments of integers by
+# their bits: of LLVM, unless the layout has others.
+POINTER, ALIGNS = 8, dict[int, int]()
+LLVM_ALIGNS = {1: 1, 8: 1, 16: 2, 32: 4, 64: 4}
 WORD = re.compile(r"align (\d+)(?:\s+|$)|([a-z_]+)(?:\(((?:[^()]|\([^()]*\))*)\))?(?:\s+|$)")
 
 
@@ -144,16 +148,18 @@ def align_of(type_: str) -> int:
     if type_[0] == "{":
         return max(map(align_of, split_commas(type_[1:-1])), default=1)
     if type_ == "ptr":
-        return 8
+        return POINTER
     if type_[0] == "<":
         return 1
-    return min(1 << ((width_of(type_) + 7) // 8 - 1).bit_length(), 16)
+    # That of the next greater integer that the layout names, or of the greatest.
+    width = width_of(type_)
+    return ALIGNS[min((it for it in ALIGNS if it >= width), default=max(ALIGNS))]
 
 
 def stored_size(type_: str) -> int:
     """Returns how many bytes a load or a store of a number accesses."""
     if type_ == "ptr":
-        return 8
+        return POINTER
     if width_of(type_) % 8:
         raise Unsupported(f"{type_} in memory")
     return width_of(type_) // 8
@@ -182,15 +188,24 @@ def instruction(line: str) -> Instruction:
     return Instruction(found[1] or "", found[2], found[3], metadata)
 
 
+def use_layout(parts: list[str]) -> None:
+    """Sizes and alignments are those of a layout from here on."""
+    global POINTER
+    found = (re.match(r"i(\d+):(\d+)", it) for it in parts)
+    ALIGNS.clear()
+    ALIGNS.update(LLVM_ALIGNS | {int(it[1]): int(it[2]) // 8 for it in found if it})
+    POINTER = next((int(it.split(":")[1]) for it in parts if it[:2] == "p:"), 64) // 8
+
+
 class Module:
     """The functions, constants and metadata of a file of IR. The layout of its target says whether
     the first byte of a number is its highest, and how many bits an address has."""
 
     def __init__(self, text: str) -> None:
         layout = re.search(r'^target datalayout = "(.*)"$', text, re.M)
-        parts = layout[1].split("-") if layout else ["e"]
-        self.is_big = parts[0] == "E"
-        self.pointer = next((int(it.split(":")[1]) for it in parts if it[:2] == "p:"), 64)
+        parts = layout[1].split("-") if layout else ["e", "i64:64", "i128:128"]
+        use_layout(parts)
+        self.is_big, self.pointer = parts[0] == "E", 8 * POINTER
         self.functions: dict[str, Function] = {}
         self.constants: dict[str, Constant] = {}
         self.metadata: dict[str, str] = {}

@@ -26,10 +26,10 @@ class Head:
         self.counts: dict[str, int] = {}
         self.terms = 1
         for it in block:
-            found = re.fullmatch(r"(?:nuw |nsw )*i64 (\S+), (-?\d+)", it.text)
+            found = re.fullmatch(r"(?:nuw |nsw )*i\d+ (\S+), (-?\d+)", it.text)
             if it.op == "add" and found and found[1] in values:
                 self.counts[found[1]] = int(found[2])
-            found = re.fullmatch(rf".* {re.escape(self.address)}, i64 (\d+)", it.text)
+            found = re.fullmatch(rf".* {re.escape(self.address)}, i\d+ (\d+)", it.text)
             if it.op == "getelementptr" and found:
                 self.terms = max(self.terms, int(found[1]) // SIZE)
 
@@ -79,7 +79,8 @@ class Loops:
             return self.sums.before(offset, now.bits.size())
         done = offset - address_of(head.entered[head.address]).offset
         turns = z3.UDiv(done, constant(head.terms * SIZE))
-        return number_of(head.entered[name]).bits + turns * head.counts[name]
+        first, counted = number_of(head.entered[name]).bits, turns * head.counts[name]
+        return first + z3.Extract(first.size() - 1, 0, counted)
 
     def show(self, head: Head, values: Names, state: State) -> None:
         address = address_of(values[head.address])

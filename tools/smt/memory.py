@@ -17,7 +17,7 @@ from values import (
 
 
 class Part(NamedTuple):
-    """One of the eight bytes of a stored address."""
+    """One of the bytes of a stored address."""
 
     address: Address
     byte: int
@@ -53,7 +53,7 @@ NOTHING = Number(constant(0, 8), YES)
 
 
 def parts_of(address: Address) -> list[Cell]:
-    return [Part(address, i) for i in range(8)]
+    return [Part(address, i) for i in range(stored_size("ptr"))]
 
 
 @cache
@@ -61,9 +61,7 @@ def globals_of(module: Module) -> Objects:
     found: Objects = {}
     for name, (type_, text, align) in module.constants.items():
         try:
-            if text[:2] != 'c"' and (module.is_big or module.pointer != 64):
-                raise Unsupported("a constant of another layout")
-            cells = tuple(cells_of(type_, text))
+            cells = tuple(cells_of(type_, text, module.is_big))
             if len(cells) != size_of(type_):
                 raise Unsupported(f"constant {text}")
             found[name] = Cells(cells, align, True)
@@ -73,24 +71,25 @@ def globals_of(module: Module) -> Objects:
     return found
 
 
-def cells_of(type_: str, text: str) -> list[Cell]:
-    """Returns the bytes of a constant, the lowest first."""
+def cells_of(type_: str, text: str, is_big: bool = False) -> list[Cell]:
+    """Returns the bytes of a constant."""
     if text.startswith('c"'):
         found = re.findall(r"\\([0-9A-F]{2})|\\?(.)", text[2:-1])
         return [Number(constant(int(hex_, 16) if hex_ else ord(it), 8)) for hex_, it in found]
     if text == "zeroinitializer":
         return [Number(constant(0, 8))] * size_of(type_)
     if type_ == "ptr":
-        return [None] * 8
+        return [None] * stored_size(type_)
     if re.fullmatch(r"-?\d+", text):
         size = stored_size(type_)
-        bytes_ = [Number(constant(int(text) >> 8 * i & 255, 8)) for i in range(size)]
+        number = (int(text) % (1 << 8 * size)).to_bytes(size, "big" if is_big else "little")
+        bytes_ = [Number(constant(it, 8)) for it in number]
         return [*bytes_, *[None] * (size_of(type_) - size)]
     edge = {"[": 1, "<": 2}.get(type_[0])
     if not edge:
         raise Unsupported(f"constant {type_} {text[:40]}")
     parts = (take_type(it) for it in split_commas(text[edge:-edge]))
-    return [cell for part in parts for cell in cells_of(*part)]
+    return [cell for part in parts for cell in cells_of(*part, is_big)]
 
 
 class Memory:

@@ -26,8 +26,8 @@ from ir import Function, Module
 from memory import Object, Slice
 from proof import SEARCH, Refused, Unknown, refute_known
 from state import Goals, State, solved
-from values import Address, Ended, Names, Number, Unsupported, Value, constant, is_constant
-from values import number_of
+from values import Address, Ended, Names, Number, Unsupported, Value, constant, extend
+from values import is_constant, number_of
 
 
 class Row(NamedTuple):
@@ -129,11 +129,13 @@ class Parsing:
     """The proof of one function: for every text it returns what it should, and nothing is
     undefined."""
 
-    def __init__(self, module: Module, row: Row, library: ctypes.CDLL) -> None:
+    def __init__(self, module: Module, row: Row, library: ctypes.CDLL | None) -> None:
         self.module, self.row, self.library = module, row, library
         self.text, self.integers = Text(row.f + 1), Integers()
         self.arithmetic = Arithmetic()
         self.goals = self.agreed = 0
+        # The most bytes of a text.
+        self.longest = (1 << module.pointer - 1) - 1
         # Conditions by their identity, with what they are as those of integers.
         self.read: dict[int, tuple[BoolRef, list[BoolRef]]] = {}
         self.simple: dict[int, tuple[BoolRef, BoolRef]] = {}
@@ -162,19 +164,22 @@ class Parsing:
             self.check_facts(data)
         if self.row.is_literal and right >> 64:
             return
-        answer, _ = run_library(self.library, self.row.case, given)
+        answer = right
+        if self.library:
+            answer, _ = run_library(self.library, self.row.case, given)
         if answer != right:
             raise Refused(f"the compiled Rust returns {answer:#x}, not {right:#x}, {at}")
-        if reads:
+        if reads or not self.library:
             given_text = Slice(constant(len(data)), 1, byte_of(data), True)
             memory: dict[str, Object] = {"text": given_text}
-            size, others = Number(constant(len(data))), self.others(constant(low), constant(high))
+            size = Number(constant(len(data), self.module.pointer))
+            others = self.others(constant(low), constant(high))
             arguments: list[Value] = [Address("text", constant(0)), size, *others]
             machine = Machine(self.module, Arithmetic(exact=True), Goals(refute_known))
             (end,) = machine.run(f"@{self.row.case.symbol}", arguments, memory, [])
             read = z3.simplify(number_of(end.value).bits).as_long()
             if read != answer:
-                raise Refused(f"the reader says {read:#x}, and the processor {answer:#x}, {at}")
+                raise Refused(f"the reader says {read:#x}, not {answer:#x}, {at}")
             self.agreed += 1
 
     def check_facts(self, data: bytes) -> None:
@@ -308,7 +313,7 @@ class Parsing:
         """Returns a number that the value of a turn never exceeds."""
         if loop == "whole":
             return int(2 ** (63 - self.row.f)) + 1
-        return (1 << 63) - 1 if loop == "late" else int(2**self.text.places) - 1
+        return self.longest if loop == "late" else int(2**self.text.places) - 1
 
     def at_head(self, function: Function, block: str, values: Names, state: State) -> Names | None:
         """Before the first turn, shows the invariant and returns any values that meet it. After a
@@ -343,7 +348,7 @@ class Parsing:
     ) -> Names:
         kinds = (f"{it}{len(self.heads)}" for it in ("index", "value"))
         unknown = [z3.BitVec(it, number.bits.size()) for it, number in zip(kinds, numbers)]
-        for it, most in zip(unknown, ((1 << 63) - 1, self.most(loop))):
+        for it, most in zip(unknown, (self.longest, self.most(loop))):
             self.integers.bounds[str(it)] = 0, most
         now = [self.integers.number(it) for it in unknown]
         state.conditions.append(self.of_integers(self.invariant(loop, *now)))
@@ -356,13 +361,15 @@ class Parsing:
     def run(self) -> None:
         """Proves the function, or raises why not."""
         self.heads: list[tuple[str, str, str, dict[str, Any]]] = []
-        self.integers.bounds["n"] = 0, (1 << 63) - 1
+        width = self.module.pointer
+        self.integers.bounds["n"] = 0, self.longest
         self.always = self.keep(z3.BoolVal(True), self.text.facts())
-        length, (low, high) = z3.BitVec("n", 64), z3.BitVecs("min max", 64)
+        short, (low, high) = z3.BitVec("n", width), z3.BitVecs("min max", 64)
+        length = extend(False, 64, short)
         byte = z3.Function("text", z3.BitVecSort(64), z3.BitVecSort(8))
         machine = Machine(self.module, self.arithmetic, Outcomes(self), self)
         self.memory = {**machine.globals, "text": Slice(length, 1, byte, True)}
-        arguments: list[Value] = [Address("text", constant(0)), Number(length)]
+        arguments: list[Value] = [Address("text", constant(0)), Number(short)]
         arguments += self.others(low, high)
         at, is_met = f"@{self.row.case.symbol}", False
         try:

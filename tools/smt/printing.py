@@ -143,7 +143,7 @@ class Printed(Goals):
 class Printing:
     """The proof of one function. Conditions of the whole alone and of the rest alone are apart."""
 
-    def __init__(self, module: Module, row: Row, library: ctypes.CDLL) -> None:
+    def __init__(self, module: Module, row: Row, library: ctypes.CDLL | None) -> None:
         self.module, self.row, self.library, self.f = module, row, library, row.f
         self.goals = self.agreed = 0
         self.bits = z3.BitVec("bits", row.width)
@@ -171,7 +171,8 @@ class Printing:
         bits = chance.getrandbits(chance.randrange(1, self.row.width + 1))
         bits += chance.choice([-1, 0, 0, 1]) + chance.choice([0, 0, half])
         bits = (bits + half) % (2 * half) - half
-        text, right = self.printed(bits), shortest(bits, self.f)
+        right = shortest(bits, self.f)
+        text = self.printed(bits) if self.library else self.read_text(bits)
         if text != right:
             raise Refused(f"the compiled Rust prints {text}, not {right}, at {bits}")
         return bits
@@ -181,12 +182,16 @@ class Printing:
         chance = random.Random(self.row.name)
         for _ in range(turns):
             bits = self.judge(chance)
-            machine = Machine(self.module, Arithmetic(exact=True), Goals(refute_known))
-            (end,) = self.ends(machine, constant(bits, self.row.width))
-            text = "".join(chr(z3.simplify(it.bits).as_long()) for it in end[0])
-            if text != self.printed(bits):
-                raise Refused(f"the reader prints {text}, not {self.printed(bits)}, at {bits}")
+            text, right = self.read_text(bits), shortest(bits, self.f)
+            if text != right:
+                raise Refused(f"the reader prints {text}, not {right}, at {bits}")
             self.agreed += 1
+
+    def read_text(self, bits: int) -> str:
+        """Returns what the function prints as the reader of the IR says."""
+        machine = Machine(self.module, Arithmetic(exact=True), Goals(refute_known))
+        (end,) = self.ends(machine, constant(bits, self.row.width))
+        return "".join(chr(z3.simplify(it.bits).as_long()) for it in end[0])
 
     def search(self) -> None:
         """Looks for a value of which the function is wrong."""

@@ -223,6 +223,12 @@ def compare_addresses(machine: Machine, kind: str, a: Address, b: Address, state
     return Number(bit_of(COMPARE[kind](x, y)), poison)
 
 
+def wrapped(machine: Machine, place: BitVecRef) -> BitVecRef:
+    """Returns an address or an offset in 64 bits, of which the target may have fewer."""
+    by = 64 - machine.module.pointer
+    return z3.ZeroExt(by, z3.Extract(63 - by, 0, place)) if by else place
+
+
 def number_of_address(machine: Machine, address: Address, state: State) -> BitVecRef:
     """Objects are somewhere: aligned, not at zero, and not across the end of memory. For arguments
     that are known, each object has a page of its own."""
@@ -230,18 +236,18 @@ def number_of_address(machine: Machine, address: Address, state: State) -> BitVe
         return address.offset
     if machine.arithmetic.exact:
         page = machine.pages.setdefault(address.object, 4096 * (1 + len(machine.pages)))
-        return z3.simplify(page + address.offset)
+        return z3.simplify(wrapped(machine, page + address.offset))
     place, base = machine.memory.object(address, state), z3.BitVec(f"at_{address.object}", 64)
     most = constant((1 << machine.module.pointer) - 1)
     facts = [base != 0, z3.ULE(base, most - place.length), base & place.align - 1 == 0]
     machine.arithmetic.facts += facts
-    return base + address.offset
+    return wrapped(machine, base + address.offset)
 
 
 def null_of(machine: Machine, of: Address, null: Address, state: State) -> Address:
     """An address without an object, by its distance from an object, out of whose bounds it is."""
     base = number_of_address(machine, of._replace(offset=constant(0)), state)
-    return Address(of.object, null.offset - base, null.poison)
+    return Address(of.object, wrapped(machine, null.offset - base), null.poison)
 
 
 def address_as_number(machine: Machine, it: Instruction, state: State) -> Value:
@@ -276,7 +282,7 @@ def element(machine: Machine, text: str, state: State) -> Address:
         distance = distance + number * size
     offset = settle(base.offset + distance)
     if not flags:
-        return Address(base.object, offset, poison)
+        return Address(base.object, settle(wrapped(machine, offset)), poison)
     length = constant(0)
     if base.object is not None:
         length = machine.memory.object(base, state).length

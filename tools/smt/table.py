@@ -39,7 +39,7 @@ def key(module: Module, row: Row) -> tuple[int, int, tuple[int, int] | None, boo
     return id(module.functions[f"@{row.symbol}"]), row.f, row.range, row.is_literal
 
 
-def proof_of(module: Module, row: Row, library: ctypes.CDLL) -> Proof | Parsing | Printing:
+def proof_of(module: Module, row: Row, library: ctypes.CDLL | None) -> Proof | Parsing | Printing:
     if isinstance(row, parsing.Row):
         return Parsing(module, row, library)
     if isinstance(row, printing.Row):

@@ -157,7 +157,7 @@ case("Tag::eq_bytes", "x: u32, y: u32", "bool",
 # Of `Ok`, the bytes. Of an error, its kind, the byte, and the index or the length.
 ANSWER = """match {} {{
     Ok(tag) => tag as u64,
-    Err(InvalidTag::InvalidLength(n)) => 1 << 60 | n.min((1 << 60) - 1) as u64,
+    Err(InvalidTag::InvalidLength(n)) => 1 << 60 | (n as u64).min((1 << 60) - 1),
     Err(InvalidTag::InvalidByte {{ pos, byte }}) => {{
         2 << 60 | (byte as u64) << 48 | pos.min(99) as u64
     }}

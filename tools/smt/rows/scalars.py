@@ -20,8 +20,8 @@ for T in ("Uint24", "GlyphId24"):
          lambda p, x: wrap(32, low(U(x), LARGEST)))
     case(f"{T}::checked_new", "x: u32", "?u32", f"{T}::checked_new(x).map({T}::to_u32)",
          lambda p, x: some(fits_unsigned(24, U(x)), x))
-case("Uint24: TryFrom<usize>", "x: u64", "?u32",
-     "Uint24::try_from(x as usize).ok().map(Uint24::to_u32)",
+case("Uint24: TryFrom<usize>", "x: size", "?u32",
+     "Uint24::try_from(x).ok().map(Uint24::to_u32)",
      lambda p, x: some(fits_unsigned(24, U(x)), wrap(32, U(x))))
 case("Uint24::to_be_bytes", "x: u32", "[3]", "Uint24::new(x).to_be_bytes()",
      lambda p, x: big_endian(low(U(x), LARGEST), 3))
@@ -92,20 +92,20 @@ def bytes_of(kind: Kind) -> None:
     case(f"BigEndian::<{T}>::set", f"{given}, x: {i}", f"[{size}]",
          f"{{ let mut field = {field}::new({array}); field.set({make});"
          " Scalar::to_raw(field.get()) }", encoded)
-    case(f"{T}::read_at", "text: bytes, at: u64", f"?{result}",
-         f"<{value} as Scalar>::read_at(text, at as usize).map(|it| it{get})", read)
+    case(f"{T}::read_at", "text: bytes, at: size", f"?{result}",
+         f"<{value} as Scalar>::read_at(text, at).map(|it| it{get})", read)
     taken = f"{{ let mut rest = text; let taken = <{value} as Scalar>::take_from(&mut rest);"
     case(f"{T}::take_from", "text: bytes", f"?{result}", f"{taken} taken.map(|it| it{get}) }}",
          read)
-    case(f"{T}::take_from, rest", "text: bytes, at: u64", "?u8",
-         f"{taken} let _ = taken; rest.get(at as usize).copied() }}",
+    case(f"{T}::take_from, rest", "text: bytes, at: size", "?u8",
+         f"{taken} let _ = taken; rest.get(at).copied() }}",
          lambda p, text, at: rest_byte(text, at, size))
     if T in "FWord UfWord GlyphId16 GlyphId24 NameId LongDateTime".split():
         case(f"{T}::to_be_bytes", f"x: {i}", f"[{size}]", f"{make}.to_be_bytes()", encoded)
     if T in ("Uint24", "Int24", "GlyphId24", "Tag"):
         case(f"{T}::from_be_bytes", given, result, f"{T}::from_be_bytes({array}){get}", decoded)
-    relation(f"{T}::write_at", f"text: room, x: {i}, at: u64", "bool",
-             f"{make}.write_at(text, at as usize).is_some()",
+    relation(f"{T}::write_at", f"text: room, x: {i}, at: size", "bool",
+             f"{make}.write_at(text, at).is_some()",
              lambda p, text, x, at, result, after: written(text, clip(x), at, size, result, after))
 
 
