@@ -1,6 +1,7 @@
 //! The program as Cargo builds it: the stored lines, I/O errors, and out of memory.
 
 use fontval_lines::{ANSWERS, assert_answers};
+use std::ffi::OsString;
 use std::fs::{self, File};
 use std::path::Path;
 use std::process::{Command, Output, Stdio};
@@ -53,6 +54,23 @@ fn answers_of_the_reference() {
     assert_eq!(right.len(), 7);
 }
 
+// Of each error, a line, and what its row says.
+#[test]
+fn errors_of_the_reference() {
+    let page = include_str!("../docs/FONTVAL.md");
+    for (number, line, row) in [
+        (1, "int25 fe1dc0", "the command or the type is unknown, or the line has no word"),
+        (2, "int24", "the number of words is wrong"),
+        (3, "int24 fe1d", "a word is not a hexadecimal number of the right length"),
+        (4, "read fixed 1e3", "a word is not a decimal"),
+        (5, "read fixed 32768", "a number is out of range"),
+        (6, "sum 1 1.5", "a word is not an integer"),
+    ] {
+        assert_eq!(answers("error", line.as_bytes()), format!("error {number}\n").as_bytes());
+        assert!(page.contains(&format!("\n| {number} | {row} |\n")), "{row}");
+    }
+}
+
 // The answers to an input that is cut after a line feed are those to its parts.
 #[test]
 fn stored_lines_in_parts() {
@@ -74,13 +92,16 @@ fn long_lines() {
     }
 }
 
-// An argument is refused before a line is read, also one of no bytes.
+// An argument is refused before a line is read, also one of no bytes, or one that is no text.
 #[test]
 fn arguments() {
-    for argument in ["--help", "x", ""] {
+    let mut arguments = ["--help", "x", ""].map(OsString::from).to_vec();
+    #[cfg(unix)]
+    arguments.push(std::os::unix::ffi::OsStringExt::from_vec(vec![0xFF]));
+    for argument in arguments {
         let mut command = runner::command(Path::new(env!("CARGO_BIN_EXE_fontval")));
-        let run = command.arg(argument).stdin(Stdio::null()).output().unwrap();
-        assert_eq!((run.status.code(), run.stdout.len()), (Some(2), 0), "{argument}");
+        let run = command.arg(&argument).stdin(Stdio::null()).output().unwrap();
+        assert_eq!((run.status.code(), run.stdout.len()), (Some(2), 0), "{argument:?}");
         let told = String::from_utf8(run.stderr).unwrap();
         assert_eq!(
             (told.lines().count(), told.starts_with("fontval: takes no arguments.")),

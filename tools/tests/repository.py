@@ -301,13 +301,20 @@ class Package(unittest.TestCase):
                 self.assertTrue(link.startswith("https:"), f"{page}: {link[:40]}")
 
     def test_versions(self) -> None:
-        """All places have the version of their `Cargo.toml`, and no package is for a registry."""
+        """All places have the version of their `Cargo.toml`, all packages and pages the Rust and
+        the license of the library, and no package is for a registry."""
         self.assertEqual(version.wrong(), [], "tools/version.py writes these")
         # The package of variations stays below 1.0.
         self.assertRegex(version.current("variations"), "^0[.]")
+        (latest, *_) = re.findall(r"^## (\S+)", text("CHANGELOG.md"), re.M)
+        self.assertIn(latest, (version.current("."), "Unreleased"))
+        (rust,) = re.findall(r'^rust-version = "(.*)"$', text("Cargo.toml"), re.M)
+        pages = " ".join(text(path) for path in of("", ".md"))
+        self.assertEqual(set(re.findall(r"\bRust (1\S+) or\s+later", pages)), {rust})
         tomls = "Cargo.toml c/Cargo.toml compare/Cargo.toml variations/Cargo.toml".split()
+        same = ["publish = false", 'license = "MIT OR Apache-2.0"', f'rust-version = "{rust}"']
         for path in tomls:
-            self.assertIn("\npublish = false\n", text(path), path)
+            self.assertEqual([it for it in same if f"\n{it}\n" not in text(path)], [], path)
         # Of a git dependency, cargo takes whichever package has the name.
         named = re.compile('^name = "font-(?:types|variations)-proved"$', re.M)
         found = [path for path in of("", "Cargo.toml") if named.search(text(path))]
