@@ -72,7 +72,7 @@ int main(int count, char **arguments) {
         check("mul", fty_fixed_mul(x, y), FT_MulFix(x, y), x, y, 0);
         check("div", fty_fixed_div(x, y), FT_DivFix(x, y), x, y, 0);
         check("mul_div", fty_fixed_mul_div(x, y, z), FT_MulDiv(x, y, z), x, y, z);
-        if (FT_MulDiv(x, y, z) != fty_mul_div_i64(x, y, z))
+        if (fty_mul_div_i64(x, y, z) != FT_MulDiv(x, y, z))
             check("mul_div of 64 bits", 1, 0, x, y, z);
         check("ceil", fty_fixed_ceil(x), FT_CeilFix(x), x, 0, 0);
         check("round", fty_fixed_round_away(x), FT_RoundFix(x), x, 0, 0);

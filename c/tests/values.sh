@@ -69,6 +69,15 @@ links_freetype() {
 }
 if ! fails links_freetype; then
     sed -n 's/^| `FT_Matrix_Multiply(&a, &b)` | `\(.*\)` | .*/\1;/p' README.md >"$work/multiply.inc"
+    # Other rows name one function or more, each of which is compared in a line.
+    rows=$(grep -E '^\| `FT_(Mul|Div|Floor|PIX)[A-Za-z]*`?.*fty_' README.md | awk -F'|' '{
+        count = split($2, theirs, "`")
+        split($3, ours, "`")
+        for (i = 2; i <= count; i += 2)
+            print ours[i] "(.*" theirs[i] "("
+    }')
+    is "$(while read -r row; do grep -o "$row" tests/freetype.c | head -n 1; done <<<"$rows" | wc -l)" \
+        "$(wc -l <<<"$rows")" 'compared with FreeType' 'in README.md'
     cc -O2 -Iinclude "-I$work" $(pkg-config --cflags freetype2) tests/freetype.c "$archive" \
         $(pkg-config --libs freetype2) -o "$work/freetype"
     run "$work/freetype"
