@@ -320,6 +320,17 @@ class Package(unittest.TestCase):
         found = [path for path in of("", "Cargo.toml") if named.search(text(path))]
         self.assertEqual(found, ["Cargo.toml", "variations/Cargo.toml"])
 
+    def test_versions_of_others(self) -> None:
+        """Pages name what is compared, and the logic of the proofs."""
+        pages = "".join(text(path) for path in of("", ".md") if path != "CHANGELOG.md")
+        manifests = text("compare/Cargo.toml") + text("compare/fontations/Cargo.toml")
+        pinned = re.findall(r'^([\w-]+) = (?:\{ version = )?"=(\S+?)"', manifests, re.M)
+        self.assertGreater(len(pinned), 3)
+        for name, number in pinned:
+            named = re.findall(rf"\b{name}`?(?:\]\(\S+\))? (\d[\d.]*\d)", pages)
+            self.assertEqual(set(named), {number}, name)
+        self.assertEqual(len(set(re.findall(r"\blogic ([0-9a-f]{16})\b", pages))), 1)
+
     def test_names_on_its_first_page(self) -> None:
         page, exports = text("src/lib.rs"), text("src/generated/font_types/mod.rs")
         names = re.findall(r"\w+", " ".join(re.findall(r"pub use [^{;]*\{([^}]*)\}", exports)))
