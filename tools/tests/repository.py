@@ -26,8 +26,8 @@ GENERATED = ("src/generated/", "variations/src/generated/")
 
 # Names of std, of other crates and libraries, and of earlier versions.
 OTHERS = (
-    "__udivti3 FT_Matrix_Invert bytemuck cast_slice get_mut size_of strip_suffix type_name "
-    "bit_and round_steps from_steps scalar_at"
+    "__udivti3 FT_Matrix_Invert FT_NEXT_USHORT FT_PEEK_USHORT bytemuck cast_slice get_mut size_of "
+    "strip_suffix type_name bit_and round_steps from_steps scalar_at"
 )
 
 # Items of which no test of Rattle shows what they lack: the crate, and the code in one line.
@@ -99,9 +99,11 @@ def squeezed(text: str) -> str:
 
 
 def quoted(page: str, others: str) -> list[str]:
-    """What a page, without its blocks of code, quotes in characters of names and these."""
+    """What a page, without its blocks of code, quotes in characters of names and these, without the
+    arguments of a call."""
     texts = "\n".join(page.split("```")[::2]).split("`")[1::2]
-    return [it for it in texts if re.fullmatch(rf"[A-Za-z0-9_{others}]+", it)]
+    found = (re.fullmatch(rf"([A-Za-z0-9_{others}]+)(?:\(.*\))?", it, re.S) for it in texts)
+    return [it[1] for it in found if it]
 
 
 def formats() -> dict[str, str]:
