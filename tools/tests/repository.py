@@ -181,6 +181,18 @@ class Pages(unittest.TestCase):
         self.assertEqual([it for it in messages if f"`{it}`" not in page], [], "docs/FONTVAL.md")
         self.assertEqual(len(messages), 3)
 
+    def test_bounds_of_two_matrices(self) -> None:
+        """Pages and comments have those of the definitions."""
+        definition = text("crates/font_geom/specs/FixedMatrix.antt")
+        (composed,) = set(re.findall(r"unsigned_abs p\.y \+ (\d) \* 65536\)", definition))
+        (in_turn,) = set(re.findall(r"unsigned_abs a\.xy \+ (65536)\)", definition))
+        bounds = {r"(?:p\.)?y": composed, r"(?:v|a\.[xy]y)": str(int(in_turn) // 65536)}
+        shown = "".join(map(text, of("", ".md", ".h", ".rt", ".antt")))
+        for name, bound in bounds.items():
+            found = re.findall(rf"\+ \\?\|{name}\\?\|\) / 65536 \+ (\d+)", shown)
+            self.assertGreater(len(found), 3)
+            self.assertEqual(set(found), {bound}, name)
+
     def test_aliases(self) -> None:
         """The guide's table has the names of other libraries that the search of the documentation
         finds, each beside what it finds."""
