@@ -41,10 +41,13 @@ PLACES = {
 }
 
 
-def current(folder: str) -> str:
-    text = (ROOT / folder / "Cargo.toml").read_text()
-    (found,) = re.findall(r'^version = "(.*)"$', text, re.MULTILINE)
+def of(manifest: str) -> str:
+    (found,) = re.findall(r'^version = "(.*)"$', manifest, re.MULTILINE)
     return str(found)
+
+
+def current(folder: str) -> str:
+    return of((ROOT / folder / "Cargo.toml").read_text())
 
 
 def shown(form: str, version: str) -> str:

@@ -1,15 +1,20 @@
 """What users can name in both packages is that of `tests/api.txt`, with what their types store, so
-that a change of it is one of that file. After an intended change: `python3 tools/tests/api.py`."""
+that a change of it is one of that file. After an intended change: `python3 tools/tests/api.py`.
+From 1.0 on, nothing is gone that a release with the same first number has, nor a declaration of C.
+"""
 
 import re
+import subprocess
 import sys
 import unittest
+from collections import Counter
 from collections.abc import Iterator
 from pathlib import Path
 
 ROOT = Path(__file__).parent.parent.parent
-sys.path.append(str(ROOT / "tools/mir"))
+sys.path += [str(ROOT / "tools"), str(ROOT / "tools/mir")]
 
+import version  # noqa: E402
 from declared import words  # noqa: E402
 
 LIST = ROOT / "tests/api.txt"
@@ -95,7 +100,88 @@ def exchangeable(package: str) -> list[str]:
     return found
 
 
+# Names that the root exports.
+USED = re.compile(r"^pub (?:use \w+::\{(.*)\}|const (\w+))", re.M)
+# The head of an item: what is no item of its own, or the name of one.
+HEAD = re.compile(
+    r"src/|.*?\b(?:impl|macro_rules)\b|.*?\b(?:struct|enum|trait|type|fn|const) (\w+)"
+)
+DERIVED = re.compile(r"#\[derive\((.*?)\)\] ")
+
+
+def of_rust(shown: str) -> Counter[str]:
+    """Returns what stays of the library in Rust: the names at its root, and the lines of what has
+    such a name, of each `impl` and of macros, but of nothing hidden or private."""
+    library = shown.split("\nvariations/")[0]
+    root = library.split("\nsrc/generated/font_types/mod.rs\n")[1].split("\n\n")[0]
+    names = re.findall(r"\w+", " ".join(map("".join, USED.findall(root))))
+    found = Counter(names)
+    for item in re.split(r"\n+(?=\S)", library):
+        head, *lines = item.split("\n")
+        of = HEAD.match(head)
+        if of and "#[doc(hidden)]" not in head and (of[1] is None or of[1] in names):
+            derived = re.findall(r"\w+", " ".join(DERIVED.findall(head)))
+            lines += [DERIVED.sub("", head), *(f"{it} of {of[1]}" for it in derived)]
+            found.update(it for it in lines if not re.match(r"src/|.*#\[doc\(hidden\)| +_:", it))
+    return found
+
+
+def of_c(shown: str) -> Counter[str]:
+    """Returns what stays of the library for C: declarations, and symbol versions with exports."""
+    items = (it.rstrip() for it in re.split(r"\n+(?=[^ }])", shown))
+    return Counter(it for it in items if not it.startswith("# "))
+
+
+# What stays from 1.0 on, by the folder of its version.
+LASTING = {
+    ".": (of_rust, ["tests/api.txt"]),
+    "c": (of_c, ["c/tests/declarations.txt", "c/font_types.map"]),
+}
+
+
+def gone(folder: str, old: str, new: str) -> list[str]:
+    """Returns what was there, and is gone. A function may become `const`, or be `must_use`."""
+    lasting, _ = LASTING[folder]
+    old, new = (it.replace("#[must_use] ", "") for it in (old, new))
+    return list((lasting(old) - (lasting(new) | lasting(new.replace("const fn", "fn")))).keys())
+
+
+def of_release(commit: str, path: str) -> str:
+    run = ["git", "show", f"{commit}:{path}"]
+    found = subprocess.run(run, cwd=ROOT, capture_output=True, text=True)
+    needs = "a shallow clone lacks this commit of a release: git fetch --unshallow"
+    assert found.returncode == 0, f"{commit}: {needs}"
+    return found.stdout
+
+
 class Api(unittest.TestCase):
+    def test_nothing_of_a_release_is_gone(self) -> None:
+        page = (ROOT / "CHANGELOG.md").read_text()
+        commits = re.findall(r"^\| \d+\.\S+ \| `(\w+)` \|", page, re.M)
+        self.assertGreater(len(commits), 0)
+        for folder, (_, paths) in LASTING.items():
+            first = version.current(folder).split(".")[0]
+            for commit in commits if first != "0" else ():
+                if version.of(of_release(commit, f"./{folder}/Cargo.toml")).split(".")[0] == first:
+                    old = "\n".join(of_release(commit, path) for path in paths)
+                    new = "\n".join((ROOT / path).read_text() for path in paths)
+                    self.assertEqual(gone(folder, old, new), [], f"of {commit}")
+
+    def test_what_is_gone(self) -> None:
+        """Of planted changes."""
+        listed = LIST.read_text()
+        (vary,) = re.findall(r"^(?:#.*\] )?(pub fn vary\(.*)", listed, re.M)
+        for old, new, lost in (
+            (", vary }", " }", ["vary", vary]),
+            ("IDENTITY: Self", "ONE: Self", ["    pub const IDENTITY: Self = Self::identity()"]),
+            ("Clone, Copy)] pub struct Short", "Copy)] pub struct Short", ["Clone of Shortest"]),
+            ("trait OffsetValue: Copy", "trait OffsetValue", ["pub trait OffsetValue: Copy"]),
+            ("pub const fn max_text_len", "fn max_text_len", []),
+            ("pub fn is_empty(", "pub const fn is_empty(", []),
+            ("\nimpl Debug for Shortest", "\nimpl Debug for Shortest\nimpl Ord for Shortest", []),
+        ):
+            self.assertGreater(listed.count(old), 0, old)
+            self.assertEqual(gone(".", listed, listed.replace(old, new)), lost)
     def test_arguments_of_variations(self) -> None:
         """Those of one function differ in their types."""
         _, package = LIST.read_text().split("\nvariations/src/generated/", 1)
