@@ -33,4 +33,16 @@ pub running_64 : (number_at : ℕ → ℤ) (n : ℕ)
     → wrap 64 (total_below number_at (n + 1)) ≡ wrap 64 (wrap 64 (total_below number_at n) +ℤ number_at n)
 running_64 number_at n = grind (arith, one_more_below, wrap-add_left)
 
-pub ruleset below_calls = (none_below, one_more_below, running_below_32, running_below_64, running_32, running_64)
+pub running_128 : (number_at : ℕ → ℤ) (n : ℕ)
+    → wrap 128 (total_below number_at (n + 1)) ≡ wrap 128 (wrap 128 (total_below number_at n) +ℤ number_at n)
+running_128 number_at n = grind (arith, one_more_below, wrap-add_left)
+
+pub ruleset below_calls = (
+  none_below,
+  one_more_below,
+  running_below_32,
+  running_below_64,
+  running_32,
+  running_64,
+  running_128,
+)
