@@ -64,9 +64,6 @@ pub ruleset calls = (numbers, conversions, arrays, sums, bounds, parts, texts)
 -- for the value of `a + (b - a) * t`, as one formula
 pub ruleset lerps = (lerp_calls)
 
--- for a sum over an index, in place of `calls`
-pub ruleset index_sums = (below_calls)
-
 -- for `IsIntegral` of the greater of two integers, of a negation, or of a sum with a constant or with halves
 pub ruleset integers = (integral_rules, negation_is_integral, calls_32)
 
