@@ -60,6 +60,16 @@ module _ (x y : ℤ) (fits : SFits w32 x) (from : pos 0 ≤ℤ y) (to : y ≤ℤ
   pub product_of_parts_is_at_most_one : pos 0 ≤ℤ x → x ≤ℤ pos 65536 → wrap 32 (near (x *ℤ y) 65536) ≤ℤ pos 65536
   product_of_parts_is_at_most_one from_x to_x = omega (arith, ints, product_by_part_is_at_most from_x, to_x)
 
+-- the product of a number by a part does not overflow
+pub product_by_part_is_exact : (x y : ℤ) → SFits w32 x → pos 0 ≤ℤ y → y ≤ℤ pos 65536
+    → wrap 32 (near (x *ℤ y) 65536) ≡ near (x *ℤ y) 65536
+product_by_part_is_exact (pos n) y fits from to = kept_up (pos n) y fits from to (omega (arith, ints))
+product_by_part_is_exact (negsuc n) y fits from to = kept_down (negsuc n) y fits from to (omega (arith, ints))
+
+pub part_by_product_is_exact : (x y : ℤ) → SFits w32 x → pos 0 ≤ℤ y → y ≤ℤ pos 65536
+    → wrap 32 (near (y *ℤ x) 65536) ≡ near (y *ℤ x) 65536
+part_by_product_is_exact x y fits from to = rw (*ℤ_comm y x) (product_by_part_is_exact x y fits from to)
+
 -- the same with the part first
 module _ (x y : ℤ) (fits : SFits w32 x) (from : pos 0 ≤ℤ y) (to : y ≤ℤ pos 65536) where
   pub part_by_product_is_not_negative : pos 0 ≤ℤ x → pos 0 ≤ℤ wrap 32 (near (y *ℤ x) 65536)
@@ -117,6 +127,8 @@ pub ruleset part_calls = (
   part_by_product_is_not_positive,
   part_by_product_is_at_least,
   product_of_parts_is_at_most_one,
+  product_by_part_is_exact,
+  part_by_product_is_exact,
   widened_is_not_negative,
   widened_is_at_most_one,
 )
