@@ -5,7 +5,7 @@ use Rattle.font_fixed.proofs.{Calls.calls_16, Calls.calls_32, Calls.calls_64, Sh
 use Rattle.font_fixed.proofs.{Shifts.shr_fits, FixedCalls.fixed_calls, Integral.integral_calls, Integral.integral_rules}
 use Rattle.font_fixed.proofs.{NarrowCalls.narrow_calls, NarrowCalls.quarter_neg_one, Orders.order_calls}
 use Rattle.font_tags.proofs.{TagLaws.tag_calls, VersionLaws.compatible_calls}
-use Rattle.font_geom.proofs.Bounds.{bound_calls}
+use Rattle.font_geom.proofs.{Bounds.bound_calls, Scaled.scaled_calls}
 use Rattle.font_types.proofs.SumCalls.{sum_calls_from, sum_calls_16, sum_calls_32, delta_rules}
 use Rattle.font_types.proofs.Parts.{part_calls, unit_calls, between_calls, lerp_calls}
 use Rattle.font_types.proofs.Narrowed.{exact_narrow_calls, exact_sum_is_integral, negation_is_integral}
@@ -49,8 +49,8 @@ pub ruleset arrays = (scalar_calls, search_calls, stored_calls, array_number_cal
 -- sums of loops
 pub ruleset sums = (sum_calls_from, sum_calls_16, sum_calls_32, delta_rules, below_calls)
 
--- bounds of products: of font units, small integers and bounded matrices
-pub ruleset bounds = (short_product_calls, bound_calls, unit_calls)
+-- bounds of products: of font units, small integers, bounded matrices and scales
+pub ruleset bounds = (short_product_calls, bound_calls, unit_calls, scaled_calls)
 
 -- products by a number from 0 to 1, and numbers between two others
 pub ruleset parts = (part_calls, between_calls)
