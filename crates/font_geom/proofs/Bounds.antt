@@ -189,7 +189,7 @@ affine_bound u v e p x q y d first x_is second y_is shift =
     omega (arith, sums, linear_bound u v p x q y first x_is second y_is, shift)
 
 -- the product of two matrices, and the image of a point, by bounds
-product_bounded : (m d m' d' : ℕ) (a b : Matrix ℤ) → IsBounded m d a → IsBounded m' d' b
+pub product_bounded : (m d m' d' : ℕ) (a b : Matrix ℤ) → IsBounded m d a → IsBounded m' d' b
     → IsBounded (form_bound m m') (form_bound m d' + d) (matrix_product ◌+ℤ◌ rounded_product a b)
 product_bounded m d m' d' a b s t = search (linear_bound, affine_bound)
 
@@ -205,6 +205,14 @@ fits_point n p low s = omega (arith, ints)
 
 both_below : (j k n : ℕ) → IsTrue (nat_lt j n && nat_lt k n) → (j < n) × (k < n)
 both_below j k n test = grind (arith, nat_tests)
+
+-- the product of two matrices fits
+pub fits_product : (m d m' d' : ℕ) (a b : Matrix ℤ) → IsBounded m d a → IsBounded m' d' b
+    → IsTrue (nat_lt (form_bound m m') (2 ^ 31) && nat_lt (form_bound m d' + d) (2 ^ 31))
+    → FitsEach (FitsBits 32) (matrix_product ◌+ℤ◌ rounded_product a b)
+fits_product m d m' d' a b s t test =
+    let room = both_below _ _ _ test in
+    fits_matrix _ _ _ room.0 room.1 (product_bounded m d m' d' a b s t)
 
 pub fits_composed : (m d m' d' n : ℕ) (a b : Matrix ℤ) (p : Point ℤ) → IsBounded m d a → IsBounded m' d' b
     → IsBoundedPoint n p
