@@ -18,6 +18,17 @@ shr_high z d some = grind (arith, nat_tests)
 pub shr_fits : (w : Width) (z : ℤ) (d : ℕ) → SFits w z → SFits w (shr_z z d)
 shr_fits w z d fits = grind (arith, nat_tests)
 
+-- half the divisor added before the shift: the quotient, rounded half up
+pub shr_up : (n : ℤ) (half d : ℕ) → 0 < half → d ≡ 2 * half → shr_z (n +ℤ pos half) d ≡ up n d
+shr_up n half d some is =
+    let low = shr_low (n +ℤ pos half) d (omega (arith, some, is)) in
+    let high = shr_high (n +ℤ pos half) d (omega (arith, some, is)) in
+    let next = times-next (shr_z (n +ℤ pos half) d) d in
+    up_gives n d (shr_z (n +ℤ pos half) d) (omega (arith, some, is)) (record {
+      low = omega (arith, ints, low, is);
+      high = omega (arith, ints, high, is, next);
+    })
+
 -- the floor of half more, in two shifts that do not overflow
 halves_up : (half : ℕ) (n : ℤ) → 0 < half → shr_z (shr_z n half +ℤ pos 1) 2 ≡ up n (2 * half)
 halves_up half n some =

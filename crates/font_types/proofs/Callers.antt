@@ -2,8 +2,9 @@
 -- lemmas for answers.
 use Rattle.font_base.proofs.ScalarCalls.{scalar_calls}
 use Rattle.font_fixed.proofs.{Calls.calls_16, Calls.calls_32, Calls.calls_64, Shifts.shr_low, Shifts.shr_high}
-use Rattle.font_fixed.proofs.{Shifts.shr_fits, FixedCalls.fixed_calls, Integral.integral_calls, Integral.integral_rules}
-use Rattle.font_fixed.proofs.{NarrowCalls.narrow_calls, NarrowCalls.quarter_neg_one, Orders.order_calls}
+use Rattle.font_fixed.proofs.{Shifts.shr_fits, Shifts.shr_up, FixedCalls.fixed_calls, Integral.integral_calls}
+use Rattle.font_fixed.proofs.{Integral.integral_rules, NarrowCalls.narrow_calls, NarrowCalls.quarter_neg_one}
+use Rattle.font_fixed.proofs.Orders.{order_calls}
 use Rattle.font_tags.proofs.{TagLaws.tag_calls, VersionLaws.compatible_calls}
 use Rattle.font_geom.proofs.{Bounds.bound_calls, Scaled.scaled_calls}
 use Rattle.font_types.proofs.SumCalls.{sum_calls_from, sum_calls_16, sum_calls_32, delta_rules}
@@ -70,8 +71,8 @@ pub ruleset integers = (integral_rules, negation_is_integral, calls_32)
 -- for a narrowed number that fits
 pub ruleset narrowings = (exact_narrow_calls)
 
--- for `>>`, beside std's `wraps`: the floor of a quotient by a power of two
-pub ruleset shifts = (shr_low, shr_high, shr_fits)
+-- for `>>`, beside std's `wraps`: the floor of a quotient by a power of two, and the quotient rounded half up
+pub ruleset shifts = (shr_low, shr_high, shr_fits, shr_up)
 
 -- for the order of two numbers that are scaled, narrowed or rounded
 pub ruleset orders = (order_calls)
