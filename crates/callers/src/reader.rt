@@ -100,8 +100,8 @@ impl Scalar for GlyphOrigin {
     }
 
     fn to_raw(self) -> [u8; 4] {
-        let [a, b] = self.glyph.to_be_bytes();
-        let [c, d] = self.origin.to_be_bytes();
+        let [a, b] = self.glyph.to_raw();
+        let [c, d] = self.origin.to_raw();
         [a, b, c, d]
     }
 }
