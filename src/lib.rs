@@ -46,8 +46,8 @@
 //! | `uint16` for a glyph, `uint24` for a glyph | [`GlyphId16`], [`GlyphId24`] |
 //! | `uint16` for a name of the table `name` | [`NameId`] |
 //!
-//! The folder `examples` of the repository has a dump of a font's tables and the advances of an
-//! instance.
+//! The folder `examples` of the repository has a dump of a font's tables, and `variations/examples`
+//! has the advances of an instance.
 #![no_std]
 #![warn(missing_docs, missing_debug_implementations, missing_copy_implementations)]
 #![warn(clippy::must_use_candidate, clippy::missing_errors_doc, clippy::missing_panics_doc)]

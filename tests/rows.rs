@@ -13,13 +13,5 @@ extern crate font_types_proved as font_types;
 #[macro_use]
 mod std_for_tests;
 
-#[path = "generated/rows/mod.rs"]
+#[path = "generated/mod.rs"]
 mod rows;
-
-#[path = "generated/variations"]
-mod variations {
-    pub use font_variations_proved::*;
-
-    #[path = "mod.rs"]
-    mod tests;
-}

@@ -35,7 +35,6 @@ PLACES = {
     ],
     "variations": [
         ("variations/Cargo.toml", '\nversion = "{full}"\n'),
-        ("Cargo.lock", 'name = "font-variations-proved"\nversion = "{full}"\n'),
         ("variations/Cargo.lock", 'name = "font-variations-proved"\nversion = "{full}"\n'),
     ],
 }

@@ -38,10 +38,8 @@ CRATES = [
     (Crate("fontval", "program"), "main", "src/bin/fontval/generated/fontval"),
     (Crate("font_c", "exports"), "lib", "c/src/generated/font_c"),
     (Crate("variations", "variations"), "lib", "variations/src/generated"),
-    *(
-        (Crate(name, "tests", LEFT_OUT.get(name, ())), "tests", f"tests/generated/{name}")
-        for name in ("rows", "variations")
-    ),
+    (Crate("rows", "tests", LEFT_OUT["rows"]), "tests", "tests/generated"),
+    (Crate("variations", "tests"), "tests", "variations/tests/generated"),
 ]
 
 

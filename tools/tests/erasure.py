@@ -94,7 +94,7 @@ class Erasure(unittest.TestCase):
             "crates/font_fixed/src/fixed_i16/common.rt",
             "c/src/generated/font_c/laws.rs",
         )
-        gone, extra = "src/generated/font_tags/tag.rs", "tests/generated/rows/extra.rs"
+        gone, extra = "src/generated/font_tags/tag.rs", "tests/generated/extra.rs"
         for path in width, changed, extra:
             with open(self.folder / path, "a") as file:
                 file.write("// changed")

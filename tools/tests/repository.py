@@ -358,7 +358,8 @@ class Tests(unittest.TestCase):
         """A file of tests has no comment in brackets, no early return, and no condition but those
         known; what a debug build passes over, `make rust` runs in a release build; and a module or
         a call names what is no test."""
-        rust = of(("tests/", "compare/tests/"), ".rs") + of("crates/", ".rt")
+        folders = ("tests/", "compare/tests/", "variations/tests/")
+        rust = of(folders, ".rs") + of("crates/", ".rt")
         files = {path: text(path) for path in rust if path.endswith(".rs") or "/src/tests" in path}
         skipped = r"/\*|^ *return;|^ *#!?\[(?:cfg|ignore).*"
         wrong = [path for path in files if not is_compiled(path)]

@@ -1,4 +1,4 @@
-//! An evaluator of variations: what `tests/examples.rs` does not see.
+//! An evaluator of variations: what `variations/tests` does not see.
 
 use crate::{Avar, Fvar, SegmentMap, VariationAxisRecord};
 use font_types::{F2Dot14, Fixed, NameId, Tag};

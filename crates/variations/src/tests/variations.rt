@@ -1,4 +1,4 @@
-//! Item variation stores: what `tests/examples.rs` does not see, with values from exact arithmetic.
+//! Item variation stores: what `variations/tests` does not see, with values from exact arithmetic.
 
 use crate::{
     DeltaSetIndex, DeltaSetIndexMap, ItemVariationStore, RegionAxisCoordinates, StoreInstance,

@@ -1,6 +1,6 @@
 // @generated from crates/variations/src/tests/variations.rt by tools/erase
 
-//! Item variation stores: what `tests/examples.rs` does not see, with values from exact arithmetic.
+//! Item variation stores: what `variations/tests` does not see, with values from exact arithmetic.
 
 use crate::font_types::{F2Dot14, Fixed};
 use crate::std_for_tests::test::Fail;

@@ -1,6 +1,6 @@
 // @generated from crates/variations/src/tests/evaluator.rt by tools/erase
 
-//! An evaluator of variations: what `tests/examples.rs` does not see.
+//! An evaluator of variations: what `variations/tests` does not see.
 
 use crate::font_types::{F2Dot14, Fixed, NameId, Tag};
 use crate::std_for_tests::test::Fail;

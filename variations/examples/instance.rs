@@ -1,5 +1,5 @@
 //! Prints the advances of characters, of glyphs by their numbers, and of `all` glyphs, and the
-//! deltas of `metrics`, in an instance of a variable font:
+//! deltas of `metrics`, in an instance of a variable font. In `variations`:
 //! `cargo run --example instance -- FONT TEXT 36 37 wght=600 wdth=87.5`.
 //!
 //! What is here finds the tables, and reads `cmap`, `hmtx`, `MVAR` and the list of axes. What reads
@@ -8,6 +8,7 @@
 //!
 //! variations/README.md says how far an advance may be from the exact one.
 
+#[path = "../../examples/font/mod.rs"]
 pub mod font;
 
 use font::{Font, LongMetric, advance_of};

@@ -2,6 +2,7 @@
 //! varying an advance agree.
 
 #[allow(dead_code)]
+#[path = "../../tests/fonts/mod.rs"]
 mod fonts;
 
 use font_types_proved::{F2Dot14, Fixed, GlyphId16, UfWord};
