@@ -4,7 +4,7 @@ use fontval_lines::{ANSWERS, assert_answers};
 use std::ffi::OsString;
 use std::fs::{self, File};
 use std::path::Path;
-use std::process::{Command, Output, Stdio};
+use std::process::{Output, Stdio};
 
 mod fontval_lines;
 mod runner;
@@ -130,35 +130,44 @@ fn many_empty_lines() {
     assert!(answers.all(|answer| answer == b"error 1\n"));
 }
 
+#[track_caller]
+fn assert_read_fails(input: impl Into<Stdio>) {
+    let run = fontval(input, Stdio::piped());
+    assert_fails(&run, "fontval: read\n");
+    assert!(run.stdout.is_empty());
+}
+
+#[track_caller]
+fn assert_write_fails(output: impl Into<Stdio>) {
+    assert_fails(&fontval(File::open(LINES).unwrap(), output), "fontval: write\n");
+}
+
+#[test]
+fn streams_of_the_other_direction() {
+    let file = Path::new(env!("CARGO_TARGET_TMPDIR")).join("only-written");
+    assert_read_fails(File::create(file).unwrap());
+    assert_write_fails(File::open(LINES).unwrap());
+}
+
 #[test]
 #[cfg(unix)]
 fn read_errors() {
-    let folder = File::open(env!("CARGO_MANIFEST_DIR")).unwrap();
-    let only_written = File::create("/dev/null").unwrap();
+    assert_read_fails(File::open(env!("CARGO_MANIFEST_DIR")).unwrap());
     // A reader that would block has not ended.
     let (_open, blocks) = std::os::unix::net::UnixStream::pair().unwrap();
     blocks.set_nonblocking(true).unwrap();
-    for input in [folder.into(), only_written.into(), std::os::fd::OwnedFd::from(blocks)] {
-        let run = fontval(input, Stdio::piped());
-        assert_fails(&run, "fontval: read\n");
-        assert!(run.stdout.is_empty());
-    }
+    assert_read_fails(std::os::fd::OwnedFd::from(blocks));
 }
 
 #[test]
 #[cfg(unix)]
 fn write_errors() {
-    let lines = || File::open(LINES).unwrap();
-    let only_read = File::open("/dev/null").unwrap();
-    assert_fails(&fontval(lines(), only_read), "fontval: write\n");
     // The reader has closed its end.
     let (here, there) = std::os::unix::net::UnixStream::pair().unwrap();
     drop(there);
-    let gone: std::os::fd::OwnedFd = here.into();
-    assert_fails(&fontval(lines(), gone), "fontval: write\n");
+    assert_write_fails(std::os::fd::OwnedFd::from(here));
     if Path::new("/dev/full").exists() {
-        let full = File::create("/dev/full").unwrap();
-        assert_fails(&fontval(lines(), full), "fontval: write\n");
+        assert_write_fails(File::create("/dev/full").unwrap());
     }
 }
 
@@ -166,7 +175,7 @@ fn write_errors() {
 /// the limit would break.
 #[cfg(unix)]
 fn limited(script: &str) -> Result<Output, String> {
-    let mut shell = Command::new("sh");
+    let mut shell = std::process::Command::new("sh");
     shell.args(["-c", script, env!("CARGO_BIN_EXE_fontval"), LINES]);
     match runner::runner() {
         Some(runner) => Err(runner),

@@ -17,10 +17,13 @@ pub fn command(program: &Path) -> Command {
     }
 }
 
-/// Returns the runner that Cargo uses for another target, if it has one.
+/// Returns the runner that Cargo uses for another target, if it has one. Programs for Windows, which
+/// Wine runs, start each other without it.
 pub fn runner() -> Option<String> {
     let machine = format!("CARGO_TARGET_{}_", std::env::consts::ARCH.to_uppercase());
-    let is_runner = |name: &str| name.starts_with(&machine) && name.ends_with("_RUNNER");
+    let is_runner = |name: &str| {
+        name.starts_with(&machine) && name.ends_with("_RUNNER") && !name.contains("_WINDOWS_")
+    };
     std::env::vars().find_map(|(name, runner)| is_runner(&name).then_some(runner))
 }
 
