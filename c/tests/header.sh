@@ -206,6 +206,17 @@ else
     echo "left out: the header for 32 bits, which needs gcc-multilib"
 fi
 
+# Clang reads it for Windows and macOS.
+if command -v clang >/dev/null; then
+    for target in {x86_64,aarch64}-pc-windows-msvc x86_64-w64-windows-gnu arm64-apple-macos; do
+        for language in 'c99 -x c' 'c++11 -nostdinc++ -x c++'; do
+            # shellcheck disable=SC2086
+            clang -std=$language "--target=$target" $warnings -ffreestanding -Iinclude \
+                -fsyntax-only "$work/alone.c"
+        done
+    done
+fi
+
 # A size_t or an int of 16 bits is refused.
 refuses_16_bits() {
     fails "$@" -Iinclude -fsyntax-only "$work/alone.c"
