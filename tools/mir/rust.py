@@ -436,6 +436,9 @@ class Body(Function):
         if enum in self.text.values:
             raise ValueError(f"a discriminant that is not the number of a variant: {text}")
         if how == "IntToInt":
+            # What is proved is of a `usize` of 64 bits. One of 32 holds fewer numbers.
+            if to == "usize" and not enum and of != "usize" and WIDTHS[of] > 32:
+                raise ValueError(f"a cast of {of} to usize, which may have 32 bits")
             return ("cast", of[0] == "i", 8 if enum else WIDTHS[of], WIDTHS[to], term)
         if array := re.fullmatch(r"\[.*; (.*)\]", unreferenced(of)):
             return ("whole", term, self.count_of(array[1]))

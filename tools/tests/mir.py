@@ -1,6 +1,7 @@
 """The comparison of MIR accepts right Rust and refuses wrong Rust. `mir/attacks.rs` has functions
 that `rt lib` proved; `mir/attacks.json.xz` is the MIR that `rt` left of them."""
 
+import contextlib
 import json
 import lzma
 import os
@@ -170,6 +171,16 @@ class Mir(unittest.TestCase):
             with self.subTest(new):
                 self.assertIn(old, right)
                 self.assertIn(word, "\n".join(declared.faults(ROOT, {file: path}, lines)))
+
+    def test_casts_to_usize(self) -> None:
+        """A `usize` of 32 bits does not hold the numbers of all types."""
+        for of, is_wide in ("u16", False), ("u32", False), ("usize", False), ("u64", True):
+            body: Any = types.SimpleNamespace(
+                text=types.SimpleNamespace(values={}), enum=lambda _: None, operand=lambda it: it
+            )
+            body.type_of = lambda _, of=of: of
+            with self.assertRaises(ValueError) if is_wide else contextlib.nullcontext():
+                rust.Body.casted(body, "copy _1", "usize (IntToInt)")
 
     def test_wrong_rust(self) -> None:
         right = (FILES / "attacks.rs").read_text()
