@@ -185,7 +185,7 @@ class Api(unittest.TestCase):
     def test_arguments_of_variations(self) -> None:
         """Those of one function differ in their types."""
         _, package = LIST.read_text().split("\nvariations/src/generated/", 1)
-        self.assertGreater(len(re.findall(r"\bfn new\(bytes: &'a \[u8\]\)", package)), 4)
+        self.assertGreater(len(re.findall(r"\bfn new\(bytes: &'a \[u8\]\)", package)), 3)
         self.assertEqual(exchangeable(package), [])
         for planted in (
             "fn map(&self, x: Fixed, bytes: &[u8]) -> Fixed",

@@ -14,8 +14,8 @@ pub mod font;
 use font::{Font, LongMetric, advance_of};
 use font_types_proved::{ByteRecords, F2Dot14, F48Dot16, Fixed, GlyphId16, Scalar, ScalarArray};
 use font_types_proved::{Tag, UfWord};
-use font_variations_proved::{Avar, DeltaSetIndex, Fvar, Hvar, ItemVariationStore};
-use font_variations_proved::{SegmentMap, SegmentMaps, Setting, VariationAxisRecord};
+use font_variations_proved::VariationAxisRecord;
+use font_variations_proved::{Avar, DeltaSetIndex, Fvar, Hvar, ItemVariationStore, Setting};
 
 /// A table, which must be one that `read` takes, if the font has it.
 fn table<'a, T>(
@@ -44,32 +44,19 @@ pub fn glyph(font: &Font<'_>, character: char) -> Result<GlyphId16, String> {
 
 /// The axes of a font, none if it is not variable.
 pub fn axes(font: &Font<'_>) -> Result<Vec<VariationAxisRecord>, String> {
+    let fvar = table(font, b"fvar", Fvar::new)?;
+    Ok(fvar.map_or(Vec::new(), |fvar| fvar.axes().collect()))
+}
+
+/// The coordinates of a font's axes at these settings, none if it is not variable.
+pub fn coordinates(font: &Font<'_>, settings: &[Setting]) -> Result<Vec<F2Dot14>, String> {
     let Some(fvar) = table(font, b"fvar", Fvar::new)? else {
         return Ok(Vec::new());
     };
-    let axes: Option<_> = (0..fvar.axis_count()).map(|index| fvar.axis(index)).collect();
-    axes.ok_or("`fvar` ends before its axes".into())
-}
-
-/// The maps of the axes in `avar`, if the font has it.
-pub fn segment_maps<'a>(font: &Font<'a>) -> Result<Option<SegmentMaps<'a>>, String> {
-    Ok(table(font, b"avar", Avar::new)?.map(|avar| avar.segment_maps()))
-}
-
-/// The coordinate of a value of the next axis, from -1 to 1. To take the maps in turn is linear in
-/// the length of `avar`.
-pub fn normalized(
-    maps: &mut Option<SegmentMaps<'_>>,
-    axis: VariationAxisRecord,
-    value: Fixed,
-) -> Result<F2Dot14, String> {
-    let coordinate =
-        axis.normalize(value).ok_or_else(|| format!("{}: an invalid axis", axis.axis_tag))?;
-    let map = match maps {
-        Some(maps) => maps.next().ok_or_else(|| format!("{}: no map in `avar`", axis.axis_tag))?,
-        None => SegmentMap::default(),
-    };
-    Ok(map.final_coordinate(coordinate))
+    let avar = Avar::new(font.table(b"avar")).ok_or("avar: of another version, or too short")?;
+    let mut coordinates = vec![F2Dot14::ZERO; fvar.axis_count().into()];
+    fvar.coordinates(&avar, settings, &mut coordinates).map_err(|error| error.to_string())?;
+    Ok(coordinates)
 }
 
 /// The tables that advances are in, each found once.
@@ -158,15 +145,10 @@ fn main() -> Result<(), Box<dyn std::error::Error>> {
         words.into_iter().partition(|word| ["all", "metrics"].contains(&word.as_str()));
     let settings: Result<Vec<Setting>, String> =
         words.iter().map(|word| setting(word, &axes)).collect();
-    let settings = settings?;
-    let (mut coordinates, mut maps) = (Vec::new(), segment_maps(&font)?);
-    for axis in axes {
-        // Of two settings of an axis, the last counts.
-        let mut of_axis = settings.iter().rev().filter(|set| set.axis == axis.axis_tag);
-        let value = of_axis.next().map_or(axis.default_value, |set| set.value);
+    let coordinates = coordinates(&font, &settings?)?;
+    for (axis, coordinate) in axes.iter().zip(&coordinates) {
         let (tag, min, max) = (axis.axis_tag, axis.min_value, axis.max_value);
-        println!("{tag}: {value}, from {min} to {max}");
-        coordinates.push(normalized(&mut maps, axis, value)?);
+        println!("{tag}: from {min} to {max}, at {coordinate}");
     }
     let advances = Advances::new(&font)?;
     for character in text.chars() {

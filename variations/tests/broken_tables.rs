@@ -5,9 +5,9 @@
 #[path = "../../tests/fonts/mod.rs"]
 mod fonts;
 
-use font_types_proved::{F2Dot14, Fixed, GlyphId16, UfWord};
-use font_variations_proved::{Avar, DeltaSetIndex, DeltaSetIndexMap, Fvar, Hvar};
-use font_variations_proved::{ItemVariationStore, RegionAxisCoordinates, SegmentMap, Setting};
+use font_types_proved::{F2Dot14, Fixed, GlyphId16, Tag, UfWord};
+use font_variations_proved::{Avar, CoordinatesError, DeltaSetIndex, DeltaSetIndexMap, Fvar, Hvar};
+use font_variations_proved::{ItemVariationStore, RegionAxisCoordinates, Setting};
 use fonts::{MAP, MAPS, hvar, hvar_of_two_axes, long_axes, two_axes, words};
 
 /// Numbers that a seed determines (Marsaglia's xorshift).
@@ -45,29 +45,23 @@ fn broken(table: &[u8], random: &mut Random) -> Vec<u8> {
     table
 }
 
-fn of_fvar(bytes: &[u8], random: &mut Random) -> Option<()> {
-    let fvar = Fvar::new(bytes)?;
-    for index in [0, 1, fvar.axis_count().wrapping_sub(1), fvar.axis_count(), 0xFFFF] {
-        if let Some(axis) = fvar.axis(index) {
-            let coordinate = axis.normalize(Fixed::from_bits(random.next() as i32));
-            assert!(coordinate.is_none_or(|x| (Fixed::NEG_ONE..=Fixed::ONE).contains(&x)));
-            assert!(index < fvar.axis_count());
-        }
+fn of_fvar(bytes: &[u8], avar: &[u8], random: &mut Random) -> Option<()> {
+    let (fvar, avar) = (Fvar::new(bytes)?, Avar::new(Some(avar)).or(Avar::new(None))?);
+    let count = fvar.axis_count();
+    for index in [0, 1, count.wrapping_sub(1), count, 0xFFFF] {
+        assert!(index < count || fvar.axis(index).is_none());
     }
-    Some(())
-}
-
-fn of_avar(bytes: &[u8], random: &mut Random) -> Option<()> {
-    let (avar, x) = (Avar::new(bytes)?, Fixed::from_bits(random.next() as i32));
-    let maps: Vec<SegmentMap<'_>> = avar.segment_maps().take(64).collect();
-    assert!(maps.len() <= avar.axis_count().into());
-    for index in [0, 1, 63, avar.axis_count()] {
-        let map = avar.segment_map(index);
-        if index < 64 {
-            assert_eq!(map.as_ref(), maps.get(usize::from(index)));
+    assert!(fvar.axes().take(64).count() <= count.into());
+    let settings = [b"wght", b"wdth", b"wght"]
+        .map(|tag| Setting { axis: Tag::new(tag), value: Fixed::from_bits(random.next() as i32) });
+    let mut at = vec![F2Dot14::MAX; if count < 64 { count.into() } else { 64 }];
+    match fvar.coordinates(&avar, &settings, &mut at) {
+        Ok(()) => assert!(at.iter().all(|x| (F2Dot14::NEG_ONE..=F2Dot14::ONE).contains(x))),
+        Err(error) => {
+            assert!(at.iter().all(|x| *x == F2Dot14::MAX));
+            assert_eq!(error == CoordinatesError::Places, at.len() != count.into());
+            return None;
         }
-        let map = map.unwrap_or_default();
-        assert_eq!(map.final_coordinate(x), SegmentMap::default().final_coordinate(map.map(x)));
     }
     Some(())
 }
@@ -123,7 +117,7 @@ fn broken_tables() {
     let avar = words(&[&[1, 0, 0, 2][..], &MAP, &MAP].concat());
     let hvars: Vec<_> = MAPS.iter().map(|map| hvar_of_two_axes(map)).chain([hvar()]).collect();
     let mut random = Random(0x9E37_79B9_7F4A_7C15);
-    let mut taken = [0; 5];
+    let mut taken = [0; 4];
     for round in 0..rounds {
         let hvar = &hvars[round % hvars.len()];
         let fvar = if round % 2 == 0 { two_axes() } else { long_axes() };
@@ -131,8 +125,7 @@ fn broken_tables() {
             [&fvar, &avar, &hvar[hvar.len() - 9..], &hvar[20..], hvar]
                 .map(|table: &[u8]| broken(table, &mut random));
         let found = [
-            of_fvar(&fvar, &mut random),
-            of_avar(&avar, &mut random),
+            of_fvar(&fvar, &avar, &mut random),
             of_map(&map, &mut random),
             ItemVariationStore::new(&store).and_then(|store| of_store(store, &mut random)),
             of_hvar(&hvar, &mut random),

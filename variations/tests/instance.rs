@@ -8,11 +8,11 @@ mod instance;
 mod runner;
 
 use font_types_proved::{F2Dot14, F48Dot16, Fixed, GlyphId16, Tag, UfWord};
-use font_variations_proved::{Avar, DeltaSetIndex, DeltaSetIndexMap, Hvar};
-use font_variations_proved::{ItemVariationStore, SegmentMap, Setting};
+use font_variations_proved::{Avar, CoordinatesError, DeltaSetIndex, DeltaSetIndexMap, Fvar, Hvar};
+use font_variations_proved::{ItemVariationStore, Setting};
 use fonts::{MAP, MAPS, at_the_limits, font, font_of, fvar, hvar, hvar_of_two_axes};
 use fonts::{long_axes, of_five_axes, two_axes, variations, words};
-use instance::{Advances, axes, metrics, normalized, segment_maps};
+use instance::{Advances, axes, coordinates, metrics};
 use runner::{file, run};
 use std::error::Error;
 
@@ -23,15 +23,17 @@ fn varied(advance: u16, store: &[u8], set: DeltaSetIndex, at: &[F2Dot14]) -> Opt
     store.at(at, &mut scalars)?.vary(UfWord::new(advance), set)
 }
 
+fn set_to(axis: &[u8; 4], value: i32) -> Setting {
+    Setting { axis: Tag::new(axis), value: Fixed::from_i32(value) }
+}
+
 #[test]
 fn axes_in_long_records() {
     let bytes = font_of([(b"fvar", long_axes())]);
     let font = instance::font::Font::new(&bytes).unwrap();
-    let axes = axes(&font).unwrap();
-    let mut maps = segment_maps(&font).unwrap();
-    let mut at = |n: usize, value| normalized(&mut maps, axes[n], Fixed::from_i32(value));
-    let right = [0x2000, -0x2000].map(|bits| Ok(F2Dot14::from_bits(bits)));
-    assert_eq!([at(0, 650), at(1, 75)], right);
+    let settings = [set_to(b"wght", 650), set_to(b"wdth", 75)];
+    let right = [0x2000, -0x2000].map(F2Dot14::from_bits);
+    assert_eq!(coordinates(&font, &settings), Ok(right.into()));
 }
 
 // fontTools 4.38 gives these numbers, by these lines; `index` is the glyph if there is no map. It
@@ -192,7 +194,7 @@ fn metrics_along_two_axes() {
 #[test]
 fn coordinates_of_two_axes() {
     let (one, map) = (&[1, 0, 0, 2][..], &MAP[..]);
-    for (avar, coordinates) in [
+    for (avar, right) in [
         (None, [15204, 8192]),
         // Maps with no records.
         (Some([one, map, &[0]].concat()), [14615, 8192]),
@@ -204,13 +206,8 @@ fn coordinates_of_two_axes() {
             None => font_of([fvar]),
         };
         let font = instance::font::Font::new(&bytes).unwrap();
-        let axes = axes(&font).unwrap();
-        let mut maps = segment_maps(&font).unwrap();
-        let found = [(0, 864), (1, 150)].map(|(axis, value): (usize, _)| {
-            let coordinate = normalized(&mut maps, axes[axis], Fixed::from_i32(value));
-            coordinate.map(F2Dot14::to_bits)
-        });
-        assert_eq!(found, coordinates.map(Ok), "{avar:?}");
+        let found = coordinates(&font, &[set_to(b"wght", 864), set_to(b"wdth", 150)]);
+        assert_eq!(found, Ok(right.map(F2Dot14::from_bits).into()), "{avar:?}");
     }
 }
 
@@ -227,26 +224,26 @@ fn instance_of(font: &[u8], words: &str) -> (String, String) {
 #[test]
 fn program_instance() {
     let one = font(hvar());
-    let at = |value| format!("wght: {value}, from 100 to 900\n");
+    let at = |coordinate| format!("wght: from 100 to 900, at {coordinate}\n");
     for (words, output) in [
-        ("", at("400") + "A: 620\na: 500\n"),
-        ("wght=400", at("400") + "A: 620\na: 500\n"),
-        ("wght=650", at("650") + "A: 620\na: 495\n"),
-        ("1 wght=650", at("650") + "A: 620\na: 495\nglyph 1: 620\n"),
-        ("47", at("400") + "A: 620\na: 500\nglyph 47: 620\n"),
-        ("47 47 47 47", at("400") + "A: 620\na: 500\n" + &"glyph 47: 620\n".repeat(4)),
-        ("wght=100 wght=775.0", at("775") + "A: 620\na: 548\n"),
-        ("wght=1000", at("1000") + "A: 620\na: 600\n"),
+        ("", at("0") + "A: 620\na: 500\n"),
+        ("wght=400", at("0") + "A: 620\na: 500\n"),
+        ("wght=650", at("0.25") + "A: 620\na: 495\n"),
+        ("1 wght=650", at("0.25") + "A: 620\na: 495\nglyph 1: 620\n"),
+        ("47", at("0") + "A: 620\na: 500\nglyph 47: 620\n"),
+        ("47 47 47 47", at("0") + "A: 620\na: 500\n" + &"glyph 47: 620\n".repeat(4)),
+        ("wght=100 wght=775.0", at("0.625") + "A: 620\na: 548\n"),
+        ("wght=1000", at("1") + "A: 620\na: 600\n"),
     ] {
         assert_eq!(instance_of(&one, words), (output, String::new()), "{words}");
     }
     for (word, error) in [
         ("wdth=100", "the font has no such axis"),
         ("Wght=100", "the font has no such axis"),
-        ("wght=bold", "not a decimal number"),
-        ("wght=", "not a decimal number"),
-        ("wght=32768", "number out of range"),
-        ("weight=100", "Invalid length (6)"),
+        ("wght=bold", "value: not a decimal number"),
+        ("wght=", "value: not a decimal number"),
+        ("wght=32768", "value: number out of range"),
+        ("weight=100", "axis: Invalid length (6)"),
         ("wght", "no `=`"),
     ] {
         let found = instance_of(&one, &format!("wght=650 {word}"));
@@ -268,7 +265,7 @@ fn program_instance_of_all_glyphs() {
     let mut hvar = words(&variations(60, &[2, 1, 1, 0, 40, -1000_i16 as u16]));
     hvar.extend([0, 0, 0, 3, 0, 1, 0]);
     let found = instance_of(&font(hvar), "wght=900 all");
-    let first = "wght: 900, from 100 to 900\nA: 660\na: 540\n\
+    let first = "wght: from 100 to 900, at 1\nA: 660\na: 540\n\
         glyph 0: 540\nglyph 1: no advance in range\n";
     let lines: String = (2..48).map(|glyph| format!("glyph {glyph}: 660\n")).collect();
     assert_eq!(found, (first.to_owned() + &lines, "no advance in range for every glyph".into()));
@@ -284,7 +281,7 @@ fn program_instance_of_other_tables() {
         (tag, table)
     };
     let advances = "A: 620\na: 500\n";
-    let varied = format!("wght: 650, from 100 to 900\n{advances}");
+    let varied = format!("wght: from 100 to 900, at 0.5\n{advances}");
     for (font, words, output) in [
         (font_of([]), "", advances),
         (font_of([gvar.clone()]), "", advances),
@@ -321,13 +318,16 @@ fn program_instance_of_other_tables() {
         (font_of([axes.clone(), more_sets]), "glyph 47: no advance by `HVAR`"),
         (font_of([axes.clone(), other_store]), "HVAR: of another version, or too short"),
         (font_of([axes.clone(), (b"HVAR", two)]), "glyph 47: no advance by `HVAR`"),
-        (font_of([not_in_order]), "wght: an invalid axis"),
-        (font_of([too_wide]), "wght: an invalid axis"),
-        (font_of([(b"fvar", two_axes()), map]), "wdth: no map in `avar`"),
+        (font_of([not_in_order]), "axis 0: invalid, or without a map"),
+        (font_of([too_wide]), "axis 0: invalid, or without a map"),
+        (font_of([(b"fvar", two_axes()), map]), "axis 1: invalid, or without a map"),
         // Bytes after the maps that `avar` counts.
-        (font_of([(b"fvar", two_axes()), longer_map]), "wdth: no map in `avar`"),
+        (font_of([(b"fvar", two_axes()), longer_map]), "axis 1: invalid, or without a map"),
         (font_of([(b"fvar", two_axes()), fewer_sets]), "glyph 0: no advance by `HVAR`"),
-        (font_of([(b"fvar", words(&[1, 0, 16, 2, 1, 20, 0, 8]))]), "`fvar` ends before its axes"),
+        (
+            font_of([(b"fvar", words(&[1, 0, 16, 2, 1, 20, 0, 8]))]),
+            "wght=650: the font has no such axis",
+        ),
     ] {
         assert_eq!(instance_of(&font, "wght=650").1, error);
     }
@@ -361,8 +361,8 @@ fn program_instance_of_a_font_at_the_limits() {
 fn program_instance_of_five_axes() {
     let path = file(&of_five_axes());
     let found = run("instance", &[path.to_str().unwrap(), "\u{7F}", "0", "wght=650"]).0;
-    let axes = ["AAAA: 400", "BBBB: 400", "CCCC: 400", "DDDD: 400", "wght: 650"];
-    let axes = axes.map(|axis| format!("{axis}, from 100 to 900\n")).concat();
+    let axes = [("AAAA", "0"), ("BBBB", "0"), ("CCCC", "0"), ("DDDD", "0"), ("wght", "0.25")];
+    let axes = axes.map(|(tag, at)| format!("{tag}: from 100 to 900, at {at}\n")).concat();
     assert_eq!(found, axes + "\u{7F}: 525\nglyph 0: 525\n");
 }
 
@@ -370,7 +370,7 @@ fn program_instance_of_five_axes() {
 fn program_instance_of_two_axes() {
     let path = file(&font_of([(b"HVAR", hvar_of_two_axes(MAPS[1])), (b"fvar", two_axes())]));
     let found = run("instance", &[path.to_str().unwrap(), "A", "wdth=150"]).0;
-    let axes = "wght: 400, from 100 to 900\nwdth: 150, from 50 to 200\n";
+    let axes = "wght: from 100 to 900, at 0\nwdth: from 50 to 200, at 0.5\n";
     assert!(found.starts_with(axes), "{found}");
     let found = run("instance", &[path.to_str().unwrap()]).1;
     assert!(found.contains("-- FONT TEXT"), "{found}");
@@ -478,8 +478,11 @@ fn variations_that_are_refused() {
         assert_eq!(varied(500, &null, set, &peak), None);
     }
     assert!(Hvar::new(&[0, 1, 0, 0, 0, 0, 0, 8, 0, 0, 0]).is_none());
-    let avar = Avar::new(&[0, 1, 0, 0, 0, 0, 0, 0, 0, 0]).unwrap();
-    assert!(avar.segment_map(0).is_none());
+    // A table that counts no axis.
+    let axes = two_axes();
+    let avar = Avar::new(Some(&[0, 1, 0, 0, 0, 0, 0, 0, 0, 0])).unwrap();
+    let found = Fvar::new(&axes).unwrap().coordinates(&avar, &[], &mut [F2Dot14::ZERO; 2]);
+    assert_eq!(found, Err(CoordinatesError::InvalidAxis(0)));
 }
 
 // The scalar of an axis that is far from the first.
@@ -510,11 +513,12 @@ fn regions_of_many_axes() {
 #[test]
 fn long_maps() {
     let avar = [words(&[1, 0, 0, 2, 40_000]), vec![0; 160_000], words(&[1, 7, 9])].concat();
-    let avar = Avar::new(&avar).unwrap();
-    let maps: Vec<SegmentMap<'_>> = avar.segment_maps().collect();
-    assert_eq!([Some(maps[0]), Some(maps[1])], [0, 1].map(|axis| avar.segment_map(axis)));
-    let mapped = maps.iter().map(|map| map.map(Fixed::from_bits(28)).to_bits());
-    assert_eq!(mapped.collect::<Vec<_>>(), [28, 36]);
+    let axes = fvar(&[(b"same", [0xFFFF, 0, 1]); 2]);
+    let settings = [Setting { axis: Tag::new(b"same"), value: Fixed::from_bits(28) }];
+    let mut found = [F2Dot14::ZERO; 2];
+    let avar = Avar::new(Some(&avar)).unwrap();
+    Fvar::new(&axes).unwrap().coordinates(&avar, &settings, &mut found).unwrap();
+    assert_eq!(found.map(F2Dot14::to_bits), [7, 9]);
     let map = [words(&[0x10, 40_000]), (0..40_000_u16).flat_map(u16::to_be_bytes).collect()];
     let set = DeltaSetIndex { outer: 39_999 >> 1, inner: 1 };
     assert_eq!(DeltaSetIndexMap::new(&map.concat()).unwrap().get(39_999), Some(set));

@@ -1,6 +1,9 @@
 pub mod Fractions
 pub mod Lerps
+pub mod Normals
+pub mod Coordinates
 pub mod Segments
+pub mod Settings
 pub mod Scalars
 pub mod Stores
 pub mod OneAdvance

@@ -1,12 +1,16 @@
 -- Values of an evaluator of variations.
 use Rattle.std.specs.Prelude.{◌≡◌, ◌≢◌, ◌⊎◌, ℕ, ◌-◌, ◌<◌, ℤ, pos, neg_ℤ, ◌+ℤ◌, ◌-ℤ◌, ◌≤ℤ◌, ◌<ℤ◌, ◌==◌, List, length}
-use Rattle.std.specs.Prelude.{take, drop, Result, Ok, Err, zero, suc, ◌+◌, ◌*◌, ◌/◌, ◌≤◌, ◌*ℤ◌}
+use Rattle.std.specs.Prelude.{take, drop, Result, Ok, Err, zero, suc, ◌+◌, ◌*◌, ◌/◌, ◌≤◌, ◌*ℤ◌, slice_index_or, []}
+use Rattle.std.specs.Prelude.{Option, Some, None, IfSome}
 use Rattle.std.specs.{Int.w32, List.position_or_len, List.before_first, List.after_first}
-use Rattle.font_types.specs.Operations.{IsMulDiv, IsNarrowed, rounded_mul_div}
+use Rattle.font_types.specs.Operations.{IsMulDiv, IsNarrowed, IsQuotient, rounded_mul_div}
 use Rattle.font_types.specs.Fixed.{fixed_bits, fixed_of, Fixed, ONE, NEG_ONE}
-use Rattle.font_types.specs.{Bytes.numeral, Wrap.wrap, Wrap.FitsBits, NumberReading.ParsesFixedPoint}
-use Rattle.font_types.specs.{F2Dot14.f2dot14_bits, F2Dot14.F2Dot14, Tag.IsChecked, Tag.IsAcceptable}
+use Rattle.font_types.specs.{Bytes.numeral, Bytes.signed_numeral, Wrap.wrap, Wrap.FitsBits, NumberReading.ParsesFixedPoint}
+use Rattle.font_types.specs.{F2Dot14.f2dot14_bits, F2Dot14.F2Dot14, Tag.IsChecked, Tag.IsAcceptable, Tag.tag_bytes, NameId.name_number}
 use Rattle.variations.specs.declared.evaluator.SettingError.TheVariants.{NoValue, Axis, Value}
+use Rattle.variations.specs.declared.evaluator.CoordinatesError.TheVariants.{Places, InvalidAxis}
+use Rattle.variations.specs.declared.evaluator.CoordinatesError.{CoordinatesError}
+use Rattle.variations.specs.declared.evaluator.VariationAxisRecord.{VariationAxisRecord}
 use Rattle.variations.specs.{Variations.stored_bits, declared.evaluator.Setting.Setting}
 use Rattle.variations.specs.{declared.evaluator.SettingError.SettingError, declared.evaluator.AxisValueMap.AxisValueMap}
 
@@ -71,12 +75,45 @@ pub record HasAxis (fvar : List ℕ) (axis : ℕ) : Type 0 where
 abbrev pub axis_bytes : List ℕ → ℕ → List ℕ
 axis_bytes fvar axis = drop (axis_offset fvar axis) fvar
 
+abbrev pub axis_tag_bytes : List ℕ → ℕ → List ℕ
+axis_tag_bytes fvar axis = take 4 (axis_bytes fvar axis)
+
+abbrev pub min_of : List ℕ → ℕ → ℤ
+min_of fvar axis = signed_numeral 4 (take 4 (drop 4 (axis_bytes fvar axis)))
+
+abbrev pub default_of : List ℕ → ℕ → ℤ
+default_of fvar axis = signed_numeral 4 (take 4 (drop 8 (axis_bytes fvar axis)))
+
+abbrev pub max_of : List ℕ → ℕ → ℤ
+max_of fvar axis = signed_numeral 4 (take 4 (drop 12 (axis_bytes fvar axis)))
+
+-- the axis in this record (OpenType, "VariationAxisRecord")
+pub record IsAxis (fvar : List ℕ) (index : ℕ) (axis : VariationAxisRecord) : Type 0 where
+  pub axis_tag : tag_bytes axis.axis_tag ≡ axis_tag_bytes fvar index
+  pub min_value : fixed_bits axis.min_value ≡ min_of fvar index
+  pub default_value : fixed_bits axis.default_value ≡ default_of fvar index
+  pub max_value : fixed_bits axis.max_value ≡ max_of fvar index
+  pub flags : axis.flags ≡ numeral (take 2 (drop 16 (axis_bytes fvar index)))
+  pub axis_name_id : name_number axis.axis_name_id ≡ numeral (take 2 (drop 18 (axis_bytes fvar index)))
+
 -- an axis that values can be normalized by: the default is within the range, and 16.16 holds the length of the range
 -- (own: OpenType allows a longer range, but then a difference of two values may not be one of 16.16)
 pub record HasRange (min default max : ℤ) : Type 0 where
   pub low : min ≤ℤ default
   pub high : default ≤ℤ max
   pub width : FitsBits 32 (max -ℤ min)
+
+-- the value clamped to the axis, and its distance from the default over that of the end on its side, rounded (OpenType,
+-- coordinate scales and normalization): 0 at the default, and on a side that has no length
+pub record IsNormalized (min default max value coordinate : ℤ) : Type 0 where
+  pub at_default : value ≡ default → coordinate ≡ pos 0
+  pub above : default <ℤ value → value ≤ℤ max → IsQuotient 32 16 (value -ℤ default) (max -ℤ default) coordinate
+  pub below : value <ℤ default → min ≤ℤ value
+      → IsQuotient 32 16 (default -ℤ value) (default -ℤ min) (neg_ℤ coordinate)
+  pub no_rise : max ≡ default → default ≤ℤ value → coordinate ≡ pos 0
+  pub no_fall : min ≡ default → value ≤ℤ default → coordinate ≡ pos 0
+  pub at_max : default <ℤ max → max ≤ℤ value → coordinate ≡ fixed_bits ONE
+  pub at_min : min <ℤ default → value ≤ℤ min → coordinate ≡ fixed_bits NEG_ONE
 
 -- ---- segment maps (OpenType, avar: linear between two mappings)
 
@@ -193,3 +230,67 @@ pub record IsStoredCoordinate (coordinate : Fixed) (stored : F2Dot14) : Type 0 w
 -- the coordinate mapped, and only then rounded
 abbrev pub IsFinal : Fixed → List ℕ → F2Dot14 → Type 0
 IsFinal coordinate map stored = (mapped : Fixed) × IsMapped coordinate map mapped × IsStoredCoordinate mapped stored
+
+-- ---- the coordinates of an instance, one for each axis
+
+-- the coordinate of a value on an axis: normalized, mapped and rounded
+abbrev pub IsCoordinate : (min default max value : ℤ) → List ℕ → F2Dot14 → Type 0
+IsCoordinate min default max value map stored =
+    (normalized : Fixed) × IsNormalized min default max value (fixed_bits normalized) × IsFinal normalized map stored
+
+-- of the settings from the k-th to before the n-th, none is of the axis
+abbrev pub AreOfOthers : List Setting → List ℕ → ℕ → ℕ → Type 0
+AreOfOthers settings tag k n =
+    (j : ℕ) (d : Setting) → k ≤ j → j < n → tag_bytes (slice_index_or settings j d).axis ≢ tag
+
+-- of the first n settings, the k-th is the last of the axis, and has the value
+pub record IsLastOf (settings : List Setting) (tag : List ℕ) (n k : ℕ) (value : ℤ) : Type 0 where
+  pub within : k < n
+  pub is_axis : (d : Setting) → tag_bytes (slice_index_or settings k d).axis ≡ tag
+  pub is_value : (d : Setting) → fixed_bits (slice_index_or settings k d).value ≡ value
+  pub last : AreOfOthers settings tag (k + 1) n
+
+-- the value of an axis by the first n settings: that of the last of the axis, or the default if there is none (CSS,
+-- font-variation-settings: the last of one tag counts)
+abbrev pub IsSetTo : List Setting → List ℕ → ℤ → ℕ → ℤ → Type 0
+IsSetTo settings tag default n value = (AreOfOthers settings tag 0 n × (value ≡ default))
+    ⊎ ((k : ℕ) × IsLastOf settings tag n k value)
+
+-- the map of an axis, empty in a font without `avar`
+abbrev pub map_of : Option (List ℕ) → ℕ → List ℕ
+map_of None axis = []
+map_of (Some avar) axis = segment_map_bytes avar axis
+
+-- a value on the axis has a coordinate: the axis and its map are there, and it has a range
+pub record HasCoordinate (fvar : List ℕ) (avar : Option (List ℕ)) (axis : ℕ) : Type 0 where
+  pub there : HasAxis fvar axis
+  pub range : HasRange (min_of fvar axis) (default_of fvar axis) (max_of fvar axis)
+  pub map : IfSome avar (λ avar. HasSegmentMap avar axis)
+
+-- the coordinate of the value that the axis is set to
+pub record IsCoordinateOf (fvar : List ℕ) (avar : Option (List ℕ)) (settings : List Setting) (axis : ℕ)
+    (stored : F2Dot14) : Type 0 where
+  pub value : ℤ
+  pub is_value : IsSetTo settings (axis_tag_bytes fvar axis) (default_of fvar axis) (length settings) value
+  pub is_coordinate : IsCoordinate (min_of fvar axis) (default_of fvar axis) (max_of fvar axis) value
+      (map_of avar axis) stored
+
+-- each axis has a coordinate
+abbrev pub HaveCoordinates : List ℕ → Option (List ℕ) → Type 0
+HaveCoordinates fvar avar = (axis : ℕ) → axis < fvar_axis_count fvar → HasCoordinate fvar avar axis
+
+-- the first n coordinates, in the order of the axes
+abbrev pub AreCoordinates : List ℕ → Option (List ℕ) → List Setting → ℕ → List F2Dot14 → Type 0
+AreCoordinates fvar avar settings n coordinates = (axis : ℕ) → axis < n → (d : F2Dot14)
+    → IsCoordinateOf fvar avar settings axis (slice_index_or coordinates axis d)
+
+-- the first axis without a coordinate
+pub record IsFirstWithout (fvar : List ℕ) (avar : Option (List ℕ)) (axis : ℕ) : Type 0 where
+  pub within : axis < fvar_axis_count fvar
+  pub without : ¬ HasCoordinate fvar avar axis
+  pub before : (k : ℕ) → k < axis → HasCoordinate fvar avar k
+
+-- the error of so many places
+abbrev pub IsCoordinatesError : List ℕ → Option (List ℕ) → ℕ → CoordinatesError → Type 0
+IsCoordinatesError fvar avar places Places = places ≢ fvar_axis_count fvar
+IsCoordinatesError fvar avar places (InvalidAxis axis) = (places ≡ fvar_axis_count fvar) × IsFirstWithout fvar avar axis

@@ -1,9 +1,11 @@
 //! Coordinates of an instance: settings, `fvar` and `avar`.
 
 ghost use Rattle.std.specs.Prelude.{◌≡◌, ◌≢◌, ◌↔◌, pos, neg_ℤ, ◌≤ℤ◌, ◌<ℤ◌, ◌+ℤ◌, ◌-ℤ◌, ◌*ℤ◌, ◌≤◌};
-ghost use Rattle.std.specs.Prelude.{◌+◌, ◌-◌, ◌*◌, IsTrue, IsSome, IfSome, MatchOption, length};
-ghost use Rattle.std.specs.Prelude.{take, drop, [], ⊤};
+ghost use Rattle.std.specs.Prelude.{◌+◌, ◌*◌, IsTrue, IsSome, IfSome, IfNone, MatchOption, length};
+ghost use Rattle.std.specs.Prelude.{IsOk, IfOk, IfErr};
+ghost use Rattle.std.specs.Prelude.{take, drop, ◌-◌, ⊤};
 ghost use Rattle.std.specs.Iterator.{at_most};
+ghost use Rattle.std.specs.Option.{ForSome, option_map};
 ghost use Rattle.font_types.specs.Bytes.{numeral, signed_numeral};
 ghost use Rattle.font_types.specs.{Wrap.FitsBits, Operations.IsQuotient};
 ghost use Rattle.font_types.specs.Fixed;
@@ -13,9 +15,13 @@ ghost use Rattle.font_types.specs.{F2Dot14.f2dot14_bits, NameId.name_number, Tag
 ghost use Rattle.variations.specs.Evaluator.{value_start, AreParts, IsLerp};
 ghost use Rattle.variations.specs.Evaluator.{AreBelow, HasRange, mapping_at, mapping_count};
 ghost use Rattle.variations.specs.Evaluator.{HasSegmentMap, segment_map_bytes, IsSegmentEnd};
-ghost use Rattle.variations.specs.Evaluator.{IsMappedIn, IsMapped, IsFinal, IsStoredCoordinate};
-ghost use Rattle.variations.specs.Evaluator.{map_offset, IsAvar, avar_axis_count, IsFvar};
-ghost use Rattle.variations.specs.Evaluator.{fvar_axis_count, HasAxis, axis_bytes};
+ghost use Rattle.variations.specs.Evaluator.{IsMappedIn, IsMapped, IsStoredCoordinate};
+ghost use Rattle.variations.specs.Evaluator.{map_offset, IsAvar, IsFvar, IsNormalized};
+ghost use Rattle.variations.specs.Evaluator.{fvar_axis_count, HasAxis};
+ghost use Rattle.variations.specs.Evaluator.{IsCoordinate, map_of};
+ghost use Rattle.variations.specs.Evaluator.{IsSetTo, HasCoordinate, IsCoordinateOf};
+ghost use Rattle.variations.specs.Evaluator.{HaveCoordinates, AreCoordinates, IsFirstWithout};
+ghost use Rattle.variations.specs.Evaluator.{IsCoordinatesError, IsAxis};
 
 use font_types::{DecimalFault, F2Dot14, Fixed, InvalidTag, NameId, Scalar, Tag};
 use std::alloc::AllocError;
@@ -54,10 +60,10 @@ pub enum SettingError {
     #[error("no `=`")]
     NoValue,
     /// The part before the `=` is not a tag.
-    #[error("{0}")]
+    #[error("axis: {0}")]
     Axis(InvalidTag),
     /// The part after it is not a decimal number in range.
-    #[error("{0}")]
+    #[error("value: {0}")]
     Value(DecimalFault),
 }
 
@@ -91,20 +97,7 @@ impl FromStr for Setting {
 
 // ---- `fvar`: normalized coordinates
 
-/// A variation axis, a record of `fvar`.
-///
-/// ```
-/// use font_variations_proved::{Fixed, NameId, Tag, VariationAxisRecord};
-/// let axis = VariationAxisRecord {
-///     axis_tag: Tag::new(b"wght"),
-///     min_value: Fixed::from_i32(100),
-///     default_value: Fixed::from_i32(400),
-///     max_value: Fixed::from_i32(900),
-///     flags: 0,
-///     axis_name_id: NameId::new(256),
-/// };
-/// assert_eq!(axis.normalize(Fixed::from_i32(650)).unwrap().to_string(), "0.5");
-/// ```
+/// A variation axis, a record of `fvar`, from [`Fvar::axis`].
 #[derive(Clone, Copy, PartialEq, Eq, Hash, Debug)]
 pub struct VariationAxisRecord {
     /// The tag of the axis, such as `wght`.
@@ -164,18 +157,7 @@ impl<'a> Fvar<'a> {
     #[must_use]
     pub fn axis(&self, index: u16) -> Option<VariationAxisRecord>
         ensures variant { IsSome result ↔ HasAxis self.now.bytes.now index }
-        ensures axis_tag { IfSome result (λ axis.
-            tag_bytes axis.axis_tag ≡ take 4 (axis_bytes self.now.bytes.now index)) }
-        ensures min_value { IfSome result (λ axis. fixed_bits axis.min_value
-            ≡ signed_numeral 4 (take 4 (drop 4 (axis_bytes self.now.bytes.now index)))) }
-        ensures default_value { IfSome result (λ axis. fixed_bits axis.default_value
-            ≡ signed_numeral 4 (take 4 (drop 8 (axis_bytes self.now.bytes.now index)))) }
-        ensures max_value { IfSome result (λ axis. fixed_bits axis.max_value
-            ≡ signed_numeral 4 (take 4 (drop 12 (axis_bytes self.now.bytes.now index)))) }
-        ensures flags { IfSome result (λ axis. axis.flags
-            ≡ numeral (take 2 (drop 16 (axis_bytes self.now.bytes.now index)))) }
-        ensures axis_name_id { IfSome result (λ axis. name_number axis.axis_name_id
-            ≡ numeral (take 2 (drop 18 (axis_bytes self.now.bytes.now index)))) }
+        ensures value { IfSome result (λ axis. IsAxis self.now.bytes.now index axis) }
     {
         if index >= self.axis_count() {
             return None;
@@ -184,6 +166,147 @@ impl<'a> Fvar<'a> {
         let size = usize::from(u16::read_at(self.bytes, 10)?);
         read_axis(self.bytes.get(start + size * usize::from(index)..)?)
     }
+
+    /// Returns the axes, in order, up to the first that the table ends before.
+    #[must_use]
+    pub fn axes(&self) -> Axes<'a>
+        ensures fvar { result.fvar.bytes.now ≡ self.now.bytes.now }
+        ensures index { result.index ≡ 0 }
+    {
+        Axes {
+            fvar: *self,
+            index: 0,
+        }
+    }
+
+    /// Computes the coordinate of each axis at these settings, in the order of the axes.
+    ///
+    /// The value of an axis is that of its last setting, or the default if it has none; axes of one
+    /// tag have the same settings, and a setting of no axis of the font has no effect. The value is
+    /// clamped to the axis, and its distance from the default divided by that of the end on its
+    /// side, rounded to 16.16; `avar` maps the result, which is then rounded to 2.14.
+    ///
+    /// ```
+    /// use font_variations_proved::{Avar, F2Dot14, Fvar};
+    /// let fvar = b"\0\x01\0\0\0\x10\0\x02\0\x01\0\x14\0\0\0\x04\
+    ///     wght\0\x64\0\0\x01\x90\0\0\x03\x84\0\0\0\0\x01\0";
+    /// let (fvar, avar) = (Fvar::new(fvar).unwrap(), Avar::new(None).unwrap());
+    /// let settings = ["wght=300".parse().unwrap(), "wght=650".parse().unwrap()];
+    /// let mut coordinates = [F2Dot14::ZERO; 1];
+    /// fvar.coordinates(&avar, &settings, &mut coordinates).unwrap();
+    /// assert_eq!(coordinates[0].to_string(), "0.5");
+    /// ```
+    ///
+    /// OpenType allows an axis that is wider than 16.16 holds, such as one from -20000 to 20000. Its
+    /// values are not normalized, because the distances that are divided are numbers of 16.16, and
+    /// all of them fit only if `max - min` does.
+    ///
+    /// The time is linear in the length of `avar`, and in the number of axes times that of the
+    /// settings.
+    ///
+    /// # Errors
+    ///
+    /// `Places` unless `coordinates` are as many as the axes, and else `InvalidAxis` of the first
+    /// axis without a coordinate: a table ends before it or its map, or it is not in order, or it is
+    /// wider than 16.16 holds. Then `coordinates` are as before.
+    pub fn coordinates(
+        &self,
+        avar: &Avar<'_>,
+        settings: &[Setting],
+        coordinates: &mut [F2Dot14],
+    ) -> Result<(), CoordinatesError>
+        ensures variant { IsOk result ↔ ((length coordinates.old ≡ fvar_axis_count self.now.bytes.now)
+            × HaveCoordinates self.now.bytes.now (option_map (λ avar. avar.now) avar.now.bytes)) }
+        ensures error { IfErr result (λ error. IsCoordinatesError self.now.bytes.now
+            (option_map (λ avar. avar.now) avar.now.bytes) (length coordinates.old) error) }
+        ensures kept { IfErr result (λ _. coordinates.new ≡ coordinates.old) }
+        ensures len { length coordinates.new ≡ length coordinates.old }
+        ensures value { IfOk result (λ _. AreCoordinates self.now.bytes.now
+            (option_map (λ avar. avar.now) avar.now.bytes) settings.now (length coordinates.new)
+            coordinates.new) }
+    {
+        if coordinates.len() != usize::from(self.axis_count()) {
+            return Err(CoordinatesError::Places);
+        }
+        if let Some(axis) = first_without(self, avar) {
+            return Err(CoordinatesError::InvalidAxis(axis));
+        }
+        write_coordinates(self, avar, settings, coordinates);
+        Ok(())
+    }
+}
+
+/// The axes of a table `fvar`, from [`Fvar::axes`].
+///
+/// ```
+/// use font_variations_proved::{Fvar, Tag};
+/// let fvar = b"\0\x01\0\0\0\x10\0\x02\0\x01\0\x14\0\0\0\x04\
+///     wght\0\x64\0\0\x01\x90\0\0\x03\x84\0\0\0\0\x01\0";
+/// let axes = Fvar::new(fvar).unwrap().axes();
+/// assert!(axes.map(|axis| axis.axis_tag).eq([Tag::new(b"wght")]));
+/// ```
+#[derive(Debug, Drop)]
+pub struct Axes<'a> {
+    fvar: Fvar<'a>,
+    index: u16,
+}
+
+impl<'a> Iterator for Axes<'a> {
+    type Item = VariationAxisRecord;
+
+    ghost next_gives = { λ old result new. (new.fvar.bytes.now ≡ old.fvar.bytes.now)
+        × (IsSome result ↔ HasAxis old.fvar.bytes.now old.index)
+        × IfSome result (λ axis. IsAxis old.fvar.bytes.now old.index axis)
+        × MatchOption result (new.index ≡ old.index) (λ _. new.index ≡ old.index + 1) };
+
+    ghost remaining = { λ axes. at_most (fvar_axis_count axes.fvar.bytes.now - axes.index) };
+
+    fn next(&mut self) -> Option<VariationAxisRecord> {
+        if self.index >= self.fvar.axis_count() {
+            return None;
+        }
+        let axis = self.fvar.axis(self.index)?;
+        self.index += 1;
+        Some(axis)
+    }
+}
+
+impl<'a> FusedIterator for Axes<'a> {}
+
+impl<'a> Clone for Axes<'a> {
+    ghost is_clone = { λ axes copy. (copy.fvar.bytes.now ≡ axes.fvar.bytes.now)
+        × (copy.index ≡ axes.index) };
+
+    ghost is_infallible = { λ _. ⊤ };
+
+    fn clone(&self) -> Result<Axes<'a>, AllocError> {
+        Ok(Axes {
+            fvar: self.fvar,
+            index: self.index,
+        })
+    }
+}
+
+/// Why the axes have no coordinates.
+///
+/// ```
+/// use font_variations_proved::{Avar, CoordinatesError, F2Dot14, Fvar};
+/// let fvar = b"\0\x01\0\0\0\x10\0\x02\0\x01\0\x14\0\0\0\x04\
+///     wght\0\x64\0\0\x01\x90\0\0\x03\x84\0\0\0\0\x01\0";
+/// let (fvar, avar) = (Fvar::new(fvar).unwrap(), Avar::new(None).unwrap());
+/// let mut coordinates = [F2Dot14::ONE; 2];
+/// let found = fvar.coordinates(&avar, &[], &mut coordinates);
+/// assert_eq!(found, Err(CoordinatesError::Places));
+/// assert_eq!(coordinates, [F2Dot14::ONE; 2]);
+/// ```
+#[derive(Clone, Copy, PartialEq, Eq, Debug, Error)]
+pub enum CoordinatesError {
+    /// The places are more or fewer than the axes.
+    #[error("not one place for each axis")]
+    Places,
+    /// The axis with this number has no coordinate.
+    #[error("axis {0}: invalid, or without a map")]
+    InvalidAxis(u16),
 }
 
 // Reads an axis of `fvar`, or returns `None` if there are fewer than 20 bytes.
@@ -260,52 +383,21 @@ fn has_range(axis: VariationAxisRecord) -> bool
         && axis.max_value.checked_sub(axis.min_value).is_some()
 }
 
-impl VariationAxisRecord {
-    /// Normalizes a value to -1..1: clamps it to the axis, and divides its distance from the default
-    /// by that of the end on its side. Returns `None` unless `min <= default <= max` and 16.16
-    /// holds `max - min`.
-    ///
-    /// OpenType allows a wider axis, such as one from -20000 to 20000. Its values are not
-    /// normalized, because the distances that are divided are numbers of 16.16, and all of them fit
-    /// only if `max - min` does.
-    #[must_use]
-    pub fn normalize(&self, value: Fixed) -> Option<Fixed>
-        ensures variant { IsSome result ↔ HasRange (fixed_bits self.now.min_value)
-            (fixed_bits self.now.default_value) (fixed_bits self.now.max_value) }
-        ensures default { IfSome result (λ coordinate. fixed_bits value ≡ fixed_bits self.now.default_value
-            → fixed_bits coordinate ≡ pos 0) }
-        ensures above { IfSome result (λ coordinate. fixed_bits self.now.default_value <ℤ fixed_bits value
-            → fixed_bits value ≤ℤ fixed_bits self.now.max_value
-            → IsQuotient 32 16 (fixed_bits value -ℤ fixed_bits self.now.default_value)
-            (fixed_bits self.now.max_value -ℤ fixed_bits self.now.default_value) (fixed_bits coordinate)) }
-        ensures below { IfSome result (λ coordinate. fixed_bits value <ℤ fixed_bits self.now.default_value
-            → fixed_bits self.now.min_value ≤ℤ fixed_bits value
-            → IsQuotient 32 16 (fixed_bits self.now.default_value -ℤ fixed_bits value)
-            (fixed_bits self.now.default_value -ℤ fixed_bits self.now.min_value)
-            (neg_ℤ (fixed_bits coordinate))) }
-        ensures no_rise { IfSome result (λ coordinate.
-            fixed_bits self.now.max_value ≡ fixed_bits self.now.default_value
-            → fixed_bits self.now.default_value ≤ℤ fixed_bits value → fixed_bits coordinate ≡ pos 0) }
-        ensures no_fall { IfSome result (λ coordinate.
-            fixed_bits self.now.min_value ≡ fixed_bits self.now.default_value
-            → fixed_bits value ≤ℤ fixed_bits self.now.default_value → fixed_bits coordinate ≡ pos 0) }
-        ensures max { IfSome result (λ coordinate.
-            fixed_bits self.now.default_value <ℤ fixed_bits self.now.max_value
-            → fixed_bits self.now.max_value ≤ℤ fixed_bits value
-            → fixed_bits coordinate ≡ fixed_bits Fixed.ONE) }
-        ensures min { IfSome result (λ coordinate.
-            fixed_bits self.now.min_value <ℤ fixed_bits self.now.default_value
-            → fixed_bits value ≤ℤ fixed_bits self.now.min_value
-            → fixed_bits coordinate ≡ fixed_bits Fixed.NEG_ONE) }
-        ensures low { IfSome result (λ coordinate. fixed_bits Fixed.NEG_ONE ≤ℤ fixed_bits coordinate) }
-        ensures high { IfSome result (λ coordinate. fixed_bits coordinate ≤ℤ fixed_bits Fixed.ONE) }
-    {
-        if has_range(*self) {
-            let clamped = clamp(value, self.min_value, self.max_value);
-            Some(normalize_clamped(clamped, *self))
-        } else {
-            None
-        }
+// Normalizes a value to -1..1, or returns `None` unless the axis has a range.
+fn normalize(axis: VariationAxisRecord, value: Fixed) -> Option<Fixed>
+    ensures variant { IsSome result ↔ HasRange (fixed_bits axis.min_value)
+        (fixed_bits axis.default_value) (fixed_bits axis.max_value) }
+    ensures value { IfSome result (λ coordinate. IsNormalized (fixed_bits axis.min_value)
+        (fixed_bits axis.default_value) (fixed_bits axis.max_value) (fixed_bits value)
+        (fixed_bits coordinate)) }
+    ensures low { IfSome result (λ coordinate. fixed_bits Fixed.NEG_ONE ≤ℤ fixed_bits coordinate) }
+    ensures high { IfSome result (λ coordinate. fixed_bits coordinate ≤ℤ fixed_bits Fixed.ONE) }
+{
+    if has_range(axis) {
+        let clamped = clamp(value, axis.min_value, axis.max_value);
+        Some(normalize_clamped(clamped, axis))
+    } else {
+        None
     }
 }
 
@@ -353,193 +445,170 @@ fn to_stored(coordinate: Fixed) -> F2Dot14
 
 // ---- `avar`: segment maps
 
-/// A table `avar` of major version 1.
+/// The maps of the axes: those of a table `avar` of major version 1, or none in a font without it.
 ///
 /// ```
-/// use font_variations_proved::{Avar, Fixed};
-/// // One axis, with four mappings: -1 and 0 to themselves, 0.5 to 0.25, and 1 to itself.
-/// let avar = b"\0\x01\0\0\0\0\0\x01\0\x04\xC0\0\xC0\0\0\0\0\0\x20\0\x10\0\x40\0\x40\0";
-/// let map = Avar::new(avar).unwrap().segment_map(0).unwrap();
-/// let half = Fixed::from_decimal("0.5").unwrap();
-/// assert_eq!(map.final_coordinate(half).to_string(), "0.25");
+/// use font_variations_proved::Avar;
+/// assert!(Avar::new(None).is_some());
+/// // No axis; and the same of major version 2, which maps coordinates further.
+/// assert!(Avar::new(Some(b"\0\x01\0\0\0\0\0\0")).is_some());
+/// assert!(Avar::new(Some(b"\0\x02\0\0\0\0\0\0")).is_none());
 /// ```
 #[derive(Clone, Copy, PartialEq, Eq, Hash, Debug)]
 pub struct Avar<'a> {
-    bytes: &'a [u8],
-    ghost header: { IsAvar bytes.now },
+    bytes: Option<&'a [u8]>,
+    ghost header: { ForSome bytes (λ bytes. IsAvar bytes.now) },
 }
 
 impl<'a> Avar<'a> {
     /// Returns the table that begins at these bytes, or `None` if its major version is not 1, or it
-    /// ends before its header does.
+    /// ends before its header does. Takes `None` for a font without the table.
     #[must_use]
-    pub fn new(bytes: &'a [u8]) -> Option<Avar<'a>>
-        ensures variant { IsSome result ↔ IsAvar bytes.now }
-        ensures bytes { IfSome result (λ avar. avar.bytes.now ≡ bytes.now) }
+    pub fn new(bytes: Option<&'a [u8]>) -> Option<Avar<'a>>
+        ensures variant { IsSome result ↔ IfSome bytes.entry (λ bytes. IsAvar bytes.now) }
+        ensures bytes { IfSome result (λ avar. avar.bytes ≡ bytes.entry) }
     {
-        if u16::read_at(bytes, 0)? != 1 || bytes.len() < 8 {
+        let Some(table) = bytes else {
+            return Some(Avar { bytes });
+        };
+        if u16::read_at(table, 0)? != 1 || table.len() < 8 {
             return None;
         }
         Some(Avar { bytes })
     }
 
-    /// Returns the number of axes.
-    #[must_use]
-    pub fn axis_count(&self) -> u16
-        ensures { result ≡ avar_axis_count self.now.bytes.now }
+    // Returns the mappings of an axis, each of four bytes, and where the map of the next axis
+    // starts. In a font without the table the mappings are none.
+    fn mappings(&self, axis: u16, start: usize) -> Option<(&'a [u8], usize)>
+        requires { IfSome self.now.bytes (λ avar. start ≡ map_offset avar.now axis) }
+        ensures variant { IsSome result
+            ↔ IfSome self.now.bytes (λ avar. HasSegmentMap avar.now axis) }
+        ensures value { IfSome result (λ found.
+            found.0.now ≡ map_of (option_map (λ avar. avar.now) self.now.bytes) axis) }
+        ensures next { IfSome result (λ found. IfSome self.now.bytes (λ avar.
+            found.1 ≡ map_offset avar.now (axis + 1))) }
     {
-        u16::read_at(self.bytes, 6).unwrap_or(0)
-    }
-
-    /// Returns the segment map of an axis, or `None` if the table has no such axis, or ends before
-    /// the map does.
-    ///
-    /// The maps of the axes before it are walked, so for all axes use
-    /// [`segment_maps`](Avar::segment_maps).
-    #[must_use]
-    pub fn segment_map(&self, axis: u16) -> Option<SegmentMap<'a>>
-        ensures variant { IsSome result ↔ HasSegmentMap self.now.bytes.now axis }
-        ensures value { IfSome result (λ map.
-            map.mappings.now ≡ segment_map_bytes self.now.bytes.now axis) }
-    {
-        let mappings = find_mappings(self.bytes, axis)?;
-        Some(SegmentMap { mappings })
-    }
-
-    /// Returns the segment maps of the axes, in order, up to the first that the table does not
-    /// have. Each is found in the same time.
-    #[must_use]
-    #[tactic(auto, using(font_types::proofs::Callers::calls, crate::proofs::Segments::map_rules))]
-    pub fn segment_maps(&self) -> SegmentMaps<'a>
-        ensures avar { result.avar.now ≡ self.now.bytes.now }
-        ensures axis { result.axis ≡ 0 }
-    {
-        SegmentMaps {
-            avar: self.bytes,
-            axis: 0,
-            start: 8,
+        match self.bytes {
+            Some(avar) => mappings_at(avar, axis, start),
+            None => Some((&[], start)),
         }
     }
 }
 
-// Finds the mappings of an axis in a table `avar`, each of four bytes.
+// Returns the mappings of an axis whose map starts here, and where the next map starts.
 #[tactic(auto, using(font_types::proofs::Callers::calls, crate::proofs::Segments::map_rules))]
-fn find_mappings(avar: &[u8], axis: u16) -> Option<&[u8]>
+fn mappings_at(avar: &[u8], axis: u16, start: usize) -> Option<(&[u8], usize)>
+    requires { start ≡ map_offset avar.now axis }
     ensures variant { IsSome result ↔ HasSegmentMap avar.now axis }
-    ensures value { IfSome result (λ map. map.now ≡ segment_map_bytes avar.now axis) }
+    ensures value { IfSome result (λ found. found.0.now ≡ segment_map_bytes avar.now axis) }
+    ensures next { IfSome result (λ found. found.1 ≡ map_offset avar.now (axis + 1)) }
 {
     if axis >= u16::read_at(avar, 6)? {
         return None;
     }
-    let mut start = 8;
-    for _ in 0..axis {
-        start += 2 + 4 * usize::from(u16::read_at(avar, start)?);
-    }
-    let count = u16::read_at(avar, start)?;
-    avar.get(start + 2..)?.get(..4 * usize::from(count))
+    let len = 4 * usize::from(u16::read_at(avar, start)?);
+    let mappings = avar.get(start + 2..)?.get(..len)?;
+    Some((mappings, start + 2 + len))
 }
 
-/// The segment maps of a table `avar`, from [`Avar::segment_maps`].
-///
-/// ```
-/// use font_variations_proved::{Avar, SegmentMap};
-/// // Two axes, without mappings.
-/// let avar = [0, 1, 0, 0, 0, 0, 0, 2, 0, 0, 0, 0];
-/// let maps: Vec<SegmentMap> = Avar::new(&avar).unwrap().segment_maps().collect();
-/// assert_eq!(maps, [SegmentMap::default(); 2]);
-/// ```
-#[derive(Debug, Drop)]
-pub struct SegmentMaps<'a> {
-    avar: &'a [u8],
-    axis: u16,
+// Maps a coordinate. One below or above all mappings does not change.
+fn mapped(coordinate: Fixed, map: &[u8]) -> Fixed
+    ensures { IsMapped coordinate map.now result }
+{
+    match segment_end(coordinate, map) {
+        Some(end) => map_in_segment(coordinate, map, end),
+        None => coordinate,
+    }
+}
+
+// Returns the coordinate of a value on an axis by its mappings, or `None` unless the axis has a
+// range.
+fn coordinate(axis: VariationAxisRecord, value: Fixed, map: &[u8]) -> Option<F2Dot14>
+    ensures variant { IsSome result ↔ HasRange (fixed_bits axis.min_value)
+        (fixed_bits axis.default_value) (fixed_bits axis.max_value) }
+    ensures value { IfSome result (λ stored. IsCoordinate (fixed_bits axis.min_value)
+        (fixed_bits axis.default_value) (fixed_bits axis.max_value) (fixed_bits value) map.now
+        stored) }
+{
+    let normalized = normalize(axis, value)?;
+    Some(to_stored(mapped(normalized, map)))
+}
+
+// ---- the coordinates of an instance
+
+// Returns the value of an axis: that of its last setting, or the default.
+#[tactic(auto, using(font_types::proofs::Callers::calls, crate::proofs::Settings::setting_rules))]
+fn value_of(axis: VariationAxisRecord, settings: &[Setting]) -> Fixed
+    ensures { IsSetTo settings.now (tag_bytes axis.axis_tag) (fixed_bits axis.default_value)
+        (length settings.now) (fixed_bits result) }
+{
+    let mut value = axis.default_value;
+    for setting in settings {
+        if setting.axis == axis.axis_tag {
+            value = setting.value;
+        }
+    }
+    value
+}
+
+// Returns the coordinate along an axis, and where the map of the next axis starts.
+fn coordinate_along(
+    fvar: &Fvar<'_>,
+    avar: &Avar<'_>,
+    settings: &[Setting],
+    index: u16,
     start: usize,
-    ghost there: { start ≡ map_offset avar.now axis },
+) -> Option<(F2Dot14, usize)>
+    requires { IfSome avar.now.bytes (λ avar. start ≡ map_offset avar.now index) }
+    ensures variant { IsSome result
+        ↔ HasCoordinate fvar.now.bytes.now (option_map (λ avar. avar.now) avar.now.bytes) index }
+    ensures value { IfSome result (λ found. IsCoordinateOf fvar.now.bytes.now
+        (option_map (λ avar. avar.now) avar.now.bytes) settings.now index found.0) }
+    ensures next { IfSome result (λ found. IfSome avar.now.bytes (λ avar.
+        found.1 ≡ map_offset avar.now (index + 1))) }
+{
+    let axis = fvar.axis(index)?;
+    let (map, next) = avar.mappings(index, start)?;
+    Some((coordinate(axis, value_of(axis, settings), map)?, next))
 }
 
-impl<'a> Iterator for SegmentMaps<'a> {
-    type Item = SegmentMap<'a>;
-
-    ghost next_gives = { λ old result new. (new.avar.now ≡ old.avar.now)
-        × (IsSome result ↔ HasSegmentMap old.avar.now old.axis)
-        × IfSome result (λ map. map.mappings.now ≡ segment_map_bytes old.avar.now old.axis)
-        × MatchOption result (new.axis ≡ old.axis) (λ _. new.axis ≡ old.axis + 1) };
-
-    ghost remaining = { λ maps. at_most (avar_axis_count maps.avar.now - maps.axis) };
-
-    #[tactic(auto, using(font_types::proofs::Callers::calls, crate::proofs::Segments::map_rules))]
-    fn next(&mut self) -> Option<SegmentMap<'a>> {
-        if self.axis >= u16::read_at(self.avar, 6)? {
-            return None;
-        }
-        let count = usize::from(u16::read_at(self.avar, self.start)?);
-        let mappings = self.avar.get(self.start + 2..)?.get(..4 * count)?;
-        *self = SegmentMaps {
-            avar: self.avar,
-            axis: self.axis + 1,
-            start: self.start + 2 + 4 * count,
+// Returns the first axis without a coordinate.
+#[tactic(auto, using(font_types::proofs::Callers::calls, crate::proofs::Segments::map_rules))]
+fn first_without(fvar: &Fvar<'_>, avar: &Avar<'_>) -> Option<u16>
+    ensures { MatchOption result
+        (HaveCoordinates fvar.now.bytes.now (option_map (λ avar. avar.now) avar.now.bytes))
+        (λ axis. IsFirstWithout fvar.now.bytes.now (option_map (λ avar. avar.now) avar.now.bytes)
+        axis) }
+{
+    let mut start = 8;
+    for axis in 0..fvar.axis_count() {
+        let Some((_, next)) = coordinate_along(fvar, avar, &[], axis, start) else {
+            return Some(axis);
         };
-        Some(SegmentMap { mappings })
+        start = next;
     }
+    None
 }
 
-impl<'a> FusedIterator for SegmentMaps<'a> {}
-
-impl<'a> Clone for SegmentMaps<'a> {
-    ghost is_clone = { λ maps copy. (copy.avar.now ≡ maps.avar.now) × (copy.axis ≡ maps.axis) };
-
-    ghost is_infallible = { λ _. ⊤ };
-
-    fn clone(&self) -> Result<SegmentMaps<'a>, AllocError> {
-        Ok(SegmentMaps {
-            avar: self.avar,
-            axis: self.axis,
-            start: self.start,
-        })
-    }
-}
-
-/// The mappings of an axis, by which its coordinates change. A font without `avar` has none:
-/// `SegmentMap::default()`.
-///
-/// ```
-/// use font_variations_proved::{Fixed, SegmentMap};
-/// let half = Fixed::from_decimal("0.5").unwrap();
-/// assert_eq!(SegmentMap::default().map(half), half);
-/// ```
-#[derive(Clone, Copy, PartialEq, Eq, Hash, Debug)]
-pub struct SegmentMap<'a> {
-    mappings: &'a [u8],
-}
-
-/// No mappings.
-impl<'a> Default for SegmentMap<'a> {
-    ghost is_default = { λ map. map.mappings.now ≡ [] };
-
-    fn default() -> SegmentMap<'a> {
-        SegmentMap { mappings: &[] }
-    }
-}
-
-impl<'a> SegmentMap<'a> {
-    /// Maps a coordinate. One below or above all mappings does not change.
-    #[must_use]
-    pub fn map(&self, coordinate: Fixed) -> Fixed
-        ensures { IsMapped coordinate self.now.mappings.now result }
-    {
-        match segment_end(coordinate, self.mappings) {
-            Some(end) => map_in_segment(coordinate, self.mappings, end),
-            None => coordinate,
-        }
-    }
-
-    /// Maps a coordinate from [`normalize`](VariationAxisRecord::normalize), and then rounds it to 2.14.
-    #[must_use]
-    pub fn final_coordinate(&self, coordinate: Fixed) -> F2Dot14
-        ensures value { IsFinal coordinate self.now.mappings.now result }
-        ensures low { f2dot14_bits F2Dot14.NEG_ONE ≤ℤ f2dot14_bits result }
-        ensures high { f2dot14_bits result ≤ℤ f2dot14_bits F2Dot14.ONE }
-    {
-        to_stored(self.map(coordinate))
+// Writes the coordinates of all axes.
+#[tactic(auto, using(font_types::proofs::Callers::calls, crate::proofs::Segments::map_rules))]
+fn write_coordinates(
+    fvar: &Fvar<'_>,
+    avar: &Avar<'_>,
+    settings: &[Setting],
+    coordinates: &mut [F2Dot14],
+)
+    requires len { length coordinates.old ≡ fvar_axis_count fvar.now.bytes.now }
+    requires all { HaveCoordinates fvar.now.bytes.now (option_map (λ avar. avar.now) avar.now.bytes) }
+    ensures len { length coordinates.new ≡ length coordinates.old }
+    ensures value { AreCoordinates fvar.now.bytes.now (option_map (λ avar. avar.now) avar.now.bytes)
+        settings.now (length coordinates.new) coordinates.new }
+{
+    let mut start = 8;
+    for index in 0..fvar.axis_count() {
+        let (coordinate, next) = coordinate_along(fvar, avar, settings, index, start).unwrap();
+        coordinates[usize::from(index)] = coordinate;
+        start = next;
     }
 }
 

@@ -839,19 +839,20 @@ pub mod variations {
 
     /// Values of an evaluator of variations.
     ///
-    /// In the order of `crates/variations/specs/Evaluator.antt`: [`value_start`](mod@Evaluator_antt::value_start), [`axis_part`](mod@Evaluator_antt::axis_part), [`value_part`](mod@Evaluator_antt::value_part), [`IsSetting`](mod@Evaluator_antt::IsSetting), [`ParsesSetting`](mod@Evaluator_antt::ParsesSetting), [`fvar_version`](mod@Evaluator_antt::fvar_version), [`fvar_axis_count`](mod@Evaluator_antt::fvar_axis_count), [`fvar_axis_size`](mod@Evaluator_antt::fvar_axis_size), [`IsFvar`](mod@Evaluator_antt::IsFvar), [`axis_offset`](mod@Evaluator_antt::axis_offset), [`HasAxis`](mod@Evaluator_antt::HasAxis), [`axis_bytes`](mod@Evaluator_antt::axis_bytes), [`HasRange`](mod@Evaluator_antt::HasRange), [`lerp_part`](mod@Evaluator_antt::lerp_part), [`lerp_whole`](mod@Evaluator_antt::lerp_whole), [`lerp_rise`](mod@Evaluator_antt::lerp_rise), [`on_line`](mod@Evaluator_antt::on_line), [`FitsLerp`](mod@Evaluator_antt::FitsLerp), [`IsLerp`](mod@Evaluator_antt::IsLerp), [`mapping_count`](mod@Evaluator_antt::mapping_count), [`mapping_at`](mod@Evaluator_antt::mapping_at), [`AreBelow`](mod@Evaluator_antt::AreBelow), [`IsSegmentEnd`](mod@Evaluator_antt::IsSegmentEnd), [`IsMappedIn`](mod@Evaluator_antt::IsMappedIn), [`IsMapped`](mod@Evaluator_antt::IsMapped), [`avar_version`](mod@Evaluator_antt::avar_version), [`IsAvar`](mod@Evaluator_antt::IsAvar), [`avar_axis_count`](mod@Evaluator_antt::avar_axis_count), [`position_map_count`](mod@Evaluator_antt::position_map_count), [`map_offset`](mod@Evaluator_antt::map_offset), [`map_length`](mod@Evaluator_antt::map_length), [`HasSegmentMap`](mod@Evaluator_antt::HasSegmentMap), [`segment_map_bytes`](mod@Evaluator_antt::segment_map_bytes), [`IsStoredCoordinate`](mod@Evaluator_antt::IsStoredCoordinate), [`IsFinal`](mod@Evaluator_antt::IsFinal).
+    /// In the order of `crates/variations/specs/Evaluator.antt`: [`value_start`](mod@Evaluator_antt::value_start), [`axis_part`](mod@Evaluator_antt::axis_part), [`value_part`](mod@Evaluator_antt::value_part), [`IsSetting`](mod@Evaluator_antt::IsSetting), [`ParsesSetting`](mod@Evaluator_antt::ParsesSetting), [`fvar_version`](mod@Evaluator_antt::fvar_version), [`fvar_axis_count`](mod@Evaluator_antt::fvar_axis_count), [`fvar_axis_size`](mod@Evaluator_antt::fvar_axis_size), [`IsFvar`](mod@Evaluator_antt::IsFvar), [`axis_offset`](mod@Evaluator_antt::axis_offset), [`HasAxis`](mod@Evaluator_antt::HasAxis), [`axis_bytes`](mod@Evaluator_antt::axis_bytes), [`axis_tag_bytes`](mod@Evaluator_antt::axis_tag_bytes), [`min_of`](mod@Evaluator_antt::min_of), [`default_of`](mod@Evaluator_antt::default_of), [`max_of`](mod@Evaluator_antt::max_of), [`IsAxis`](mod@Evaluator_antt::IsAxis), [`HasRange`](mod@Evaluator_antt::HasRange), [`IsNormalized`](mod@Evaluator_antt::IsNormalized), [`lerp_part`](mod@Evaluator_antt::lerp_part), [`lerp_whole`](mod@Evaluator_antt::lerp_whole), [`lerp_rise`](mod@Evaluator_antt::lerp_rise), [`on_line`](mod@Evaluator_antt::on_line), [`FitsLerp`](mod@Evaluator_antt::FitsLerp), [`IsLerp`](mod@Evaluator_antt::IsLerp), [`mapping_count`](mod@Evaluator_antt::mapping_count), [`mapping_at`](mod@Evaluator_antt::mapping_at), [`AreBelow`](mod@Evaluator_antt::AreBelow), [`IsSegmentEnd`](mod@Evaluator_antt::IsSegmentEnd), [`IsMappedIn`](mod@Evaluator_antt::IsMappedIn), [`IsMapped`](mod@Evaluator_antt::IsMapped), [`avar_version`](mod@Evaluator_antt::avar_version), [`IsAvar`](mod@Evaluator_antt::IsAvar), [`avar_axis_count`](mod@Evaluator_antt::avar_axis_count), [`position_map_count`](mod@Evaluator_antt::position_map_count), [`map_offset`](mod@Evaluator_antt::map_offset), [`map_length`](mod@Evaluator_antt::map_length), [`HasSegmentMap`](mod@Evaluator_antt::HasSegmentMap), [`segment_map_bytes`](mod@Evaluator_antt::segment_map_bytes), [`IsStoredCoordinate`](mod@Evaluator_antt::IsStoredCoordinate), [`IsFinal`](mod@Evaluator_antt::IsFinal), [`IsCoordinate`](mod@Evaluator_antt::IsCoordinate), [`AreOfOthers`](mod@Evaluator_antt::AreOfOthers), [`IsLastOf`](mod@Evaluator_antt::IsLastOf), [`IsSetTo`](mod@Evaluator_antt::IsSetTo), [`map_of`](mod@Evaluator_antt::map_of), [`HasCoordinate`](mod@Evaluator_antt::HasCoordinate), [`IsCoordinateOf`](mod@Evaluator_antt::IsCoordinateOf), [`HaveCoordinates`](mod@Evaluator_antt::HaveCoordinates), [`AreCoordinates`](mod@Evaluator_antt::AreCoordinates), [`IsFirstWithout`](mod@Evaluator_antt::IsFirstWithout), [`IsCoordinatesError`](mod@Evaluator_antt::IsCoordinatesError).
     pub mod Evaluator_antt {
         use crate::definitions::font_base::{
-            Bytes_antt::numeral,
+            Bytes_antt::{numeral, signed_numeral},
             Wrap_antt::{FitsBits, wrap},
         };
         use crate::definitions::font_fixed::{
             F2Dot14_antt::f2dot14_bits,
             Fixed_antt::{NEG_ONE, ONE, fixed_bits, fixed_of},
-            Operations_antt::{IsMulDiv, IsNarrowed, rounded_mul_div},
+            Operations_antt::{IsMulDiv, IsNarrowed, IsQuotient, rounded_mul_div},
             Reading_antt::ParsesFixedPoint,
         };
-        use crate::definitions::font_tags::Tag_antt::{IsAcceptable, IsChecked};
+        use crate::definitions::font_ids::NameId_antt::name_number;
+        use crate::definitions::font_tags::Tag_antt::{IsAcceptable, IsChecked, tag_bytes};
         use crate::definitions::variations::Variations_antt::stored_bits;
         /// where the first `=` is, or the length of a text without one
         ///
@@ -970,6 +971,56 @@ pub mod variations {
         /// [`axis_offset`]
         pub mod axis_bytes {}
 
+        /// the bytes from its record on
+        ///
+        /// ```text
+        /// abbrev axis_tag_bytes : List ℕ → ℕ → List ℕ
+        /// axis_tag_bytes fvar axis = take 4 (axis_bytes fvar axis)
+        /// ```
+        /// [`axis_bytes`]
+        pub mod axis_tag_bytes {}
+
+        /// the bytes from its record on
+        ///
+        /// ```text
+        /// abbrev min_of : List ℕ → ℕ → ℤ
+        /// min_of fvar axis = signed_numeral 4 (take 4 (drop 4 (axis_bytes fvar axis)))
+        /// ```
+        /// [`signed_numeral`], [`axis_bytes`]
+        pub mod min_of {}
+
+        /// the bytes from its record on
+        ///
+        /// ```text
+        /// abbrev default_of : List ℕ → ℕ → ℤ
+        /// default_of fvar axis = signed_numeral 4 (take 4 (drop 8 (axis_bytes fvar axis)))
+        /// ```
+        /// [`signed_numeral`], [`axis_bytes`]
+        pub mod default_of {}
+
+        /// the bytes from its record on
+        ///
+        /// ```text
+        /// abbrev max_of : List ℕ → ℕ → ℤ
+        /// max_of fvar axis = signed_numeral 4 (take 4 (drop 12 (axis_bytes fvar axis)))
+        /// ```
+        /// [`signed_numeral`], [`axis_bytes`]
+        pub mod max_of {}
+
+        /// the axis in this record (OpenType, "VariationAxisRecord")
+        ///
+        /// ```text
+        /// record IsAxis (fvar : List ℕ) (index : ℕ) (axis : VariationAxisRecord) : Type 0 where
+        ///   axis_tag : tag_bytes axis.axis_tag ≡ axis_tag_bytes fvar index
+        ///   min_value : fixed_bits axis.min_value ≡ min_of fvar index
+        ///   default_value : fixed_bits axis.default_value ≡ default_of fvar index
+        ///   max_value : fixed_bits axis.max_value ≡ max_of fvar index
+        ///   flags : axis.flags ≡ numeral (take 2 (drop 16 (axis_bytes fvar index)))
+        ///   axis_name_id : name_number axis.axis_name_id ≡ numeral (take 2 (drop 18 (axis_bytes fvar index)))
+        /// ```
+        /// [`tag_bytes`], [`axis_tag_bytes`], [`fixed_bits`], [`min_of`], [`default_of`], [`max_of`], [`numeral`], [`axis_bytes`], [`name_number`]
+        pub mod IsAxis {}
+
         /// an axis that values can be normalized by: the default is within the range, and 16.16 holds the length of the range
         /// (own: OpenType allows a longer range, but then a difference of two values may not be one of 16.16)
         ///
@@ -981,6 +1032,23 @@ pub mod variations {
         /// ```
         /// [`FitsBits`]
         pub mod HasRange {}
+
+        /// the value clamped to the axis, and its distance from the default over that of the end on its side, rounded (OpenType,
+        /// coordinate scales and normalization): 0 at the default, and on a side that has no length
+        ///
+        /// ```text
+        /// record IsNormalized (min default max value coordinate : ℤ) : Type 0 where
+        ///   at_default : value ≡ default → coordinate ≡ pos 0
+        ///   above : default <ℤ value → value ≤ℤ max → IsQuotient 32 16 (value -ℤ default) (max -ℤ default) coordinate
+        ///   below : value <ℤ default → min ≤ℤ value
+        ///       → IsQuotient 32 16 (default -ℤ value) (default -ℤ min) (neg_ℤ coordinate)
+        ///   no_rise : max ≡ default → default ≤ℤ value → coordinate ≡ pos 0
+        ///   no_fall : min ≡ default → value ≤ℤ default → coordinate ≡ pos 0
+        ///   at_max : default <ℤ max → max ≤ℤ value → coordinate ≡ fixed_bits ONE
+        ///   at_min : min <ℤ default → value ≤ℤ min → coordinate ≡ fixed_bits NEG_ONE
+        /// ```
+        /// [`IsQuotient`], [`fixed_bits`], [`ONE`], [`NEG_ONE`]
+        pub mod IsNormalized {}
 
         /// the distance of the coordinate from the start, that of the end, and the rise between their coordinates
         ///
@@ -1205,6 +1273,123 @@ pub mod variations {
         /// ```
         /// [`IsMapped`], [`IsStoredCoordinate`]
         pub mod IsFinal {}
+
+        /// the coordinate of a value on an axis: normalized, mapped and rounded
+        ///
+        /// ```text
+        /// abbrev IsCoordinate : (min default max value : ℤ) → List ℕ → F2Dot14 → Type 0
+        /// IsCoordinate min default max value map stored =
+        ///     (normalized : Fixed) × IsNormalized min default max value (fixed_bits normalized) × IsFinal normalized map stored
+        /// ```
+        /// [`IsNormalized`], [`fixed_bits`], [`IsFinal`]
+        pub mod IsCoordinate {}
+
+        /// of the settings from the k-th to before the n-th, none is of the axis
+        ///
+        /// ```text
+        /// abbrev AreOfOthers : List Setting → List ℕ → ℕ → ℕ → Type 0
+        /// AreOfOthers settings tag k n =
+        ///     (j : ℕ) (d : Setting) → k ≤ j → j < n → tag_bytes (slice_index_or settings j d).axis ≢ tag
+        /// ```
+        /// [`tag_bytes`]
+        pub mod AreOfOthers {}
+
+        /// of the first n settings, the k-th is the last of the axis, and has the value
+        ///
+        /// ```text
+        /// record IsLastOf (settings : List Setting) (tag : List ℕ) (n k : ℕ) (value : ℤ) : Type 0 where
+        ///   within : k < n
+        ///   is_axis : (d : Setting) → tag_bytes (slice_index_or settings k d).axis ≡ tag
+        ///   is_value : (d : Setting) → fixed_bits (slice_index_or settings k d).value ≡ value
+        ///   last : AreOfOthers settings tag (k + 1) n
+        /// ```
+        /// [`tag_bytes`], [`fixed_bits`], [`AreOfOthers`]
+        pub mod IsLastOf {}
+
+        /// the value of an axis by the first n settings: that of the last of the axis, or the default if there is none (CSS,
+        /// font-variation-settings: the last of one tag counts)
+        ///
+        /// ```text
+        /// abbrev IsSetTo : List Setting → List ℕ → ℤ → ℕ → ℤ → Type 0
+        /// IsSetTo settings tag default n value = (AreOfOthers settings tag 0 n × (value ≡ default))
+        ///     ⊎ ((k : ℕ) × IsLastOf settings tag n k value)
+        /// ```
+        /// [`AreOfOthers`], [`IsLastOf`]
+        pub mod IsSetTo {}
+
+        /// the map of an axis, empty in a font without `avar`
+        ///
+        /// ```text
+        /// abbrev map_of : Option (List ℕ) → ℕ → List ℕ
+        /// map_of None axis = []
+        /// map_of (Some avar) axis = segment_map_bytes avar axis
+        /// ```
+        /// [`segment_map_bytes`]
+        pub mod map_of {}
+
+        /// a value on the axis has a coordinate: the axis and its map are there, and it has a range
+        ///
+        /// ```text
+        /// record HasCoordinate (fvar : List ℕ) (avar : Option (List ℕ)) (axis : ℕ) : Type 0 where
+        ///   there : HasAxis fvar axis
+        ///   range : HasRange (min_of fvar axis) (default_of fvar axis) (max_of fvar axis)
+        ///   map : IfSome avar (λ avar. HasSegmentMap avar axis)
+        /// ```
+        /// [`HasAxis`], [`HasRange`], [`min_of`], [`default_of`], [`max_of`], [`HasSegmentMap`]
+        pub mod HasCoordinate {}
+
+        /// the coordinate of the value that the axis is set to
+        ///
+        /// ```text
+        /// record IsCoordinateOf (fvar : List ℕ) (avar : Option (List ℕ)) (settings : List Setting) (axis : ℕ)
+        ///     (stored : F2Dot14) : Type 0 where
+        ///   value : ℤ
+        ///   is_value : IsSetTo settings (axis_tag_bytes fvar axis) (default_of fvar axis) (length settings) value
+        ///   is_coordinate : IsCoordinate (min_of fvar axis) (default_of fvar axis) (max_of fvar axis) value
+        ///       (map_of avar axis) stored
+        /// ```
+        /// [`IsSetTo`], [`axis_tag_bytes`], [`default_of`], [`IsCoordinate`], [`min_of`], [`max_of`], [`map_of`]
+        pub mod IsCoordinateOf {}
+
+        /// each axis has a coordinate
+        ///
+        /// ```text
+        /// abbrev HaveCoordinates : List ℕ → Option (List ℕ) → Type 0
+        /// HaveCoordinates fvar avar = (axis : ℕ) → axis < fvar_axis_count fvar → HasCoordinate fvar avar axis
+        /// ```
+        /// [`fvar_axis_count`], [`HasCoordinate`]
+        pub mod HaveCoordinates {}
+
+        /// the first n coordinates, in the order of the axes
+        ///
+        /// ```text
+        /// abbrev AreCoordinates : List ℕ → Option (List ℕ) → List Setting → ℕ → List F2Dot14 → Type 0
+        /// AreCoordinates fvar avar settings n coordinates = (axis : ℕ) → axis < n → (d : F2Dot14)
+        ///     → IsCoordinateOf fvar avar settings axis (slice_index_or coordinates axis d)
+        /// ```
+        /// [`IsCoordinateOf`]
+        pub mod AreCoordinates {}
+
+        /// the first axis without a coordinate
+        ///
+        /// ```text
+        /// record IsFirstWithout (fvar : List ℕ) (avar : Option (List ℕ)) (axis : ℕ) : Type 0 where
+        ///   within : axis < fvar_axis_count fvar
+        ///   without : ¬ HasCoordinate fvar avar axis
+        ///   before : (k : ℕ) → k < axis → HasCoordinate fvar avar k
+        /// ```
+        /// [`fvar_axis_count`], [`HasCoordinate`]
+        pub mod IsFirstWithout {}
+
+        /// the error of so many places
+        ///
+        /// ```text
+        /// abbrev IsCoordinatesError : List ℕ → Option (List ℕ) → ℕ → CoordinatesError → Type 0
+        /// IsCoordinatesError fvar avar places Places = places ≢ fvar_axis_count fvar
+        /// IsCoordinatesError fvar avar places (InvalidAxis axis) = (places ≡ fvar_axis_count fvar) × IsFirstWithout fvar avar axis
+        /// ```
+        /// [`fvar_axis_count`], [`IsFirstWithout`]
+        pub mod IsCoordinatesError {}
     }
 
     /// Item variation stores (OpenType, font variations common table formats: "Item Variation Store").

@@ -3,19 +3,9 @@
 //! Coordinates of an instance: settings, `fvar` and `avar`.
 
 #[cfg(doc)]
-use crate::definitions::font_base::Bytes_antt::{numeral, signed_numeral};
-#[cfg(doc)]
-use crate::definitions::font_fixed::{
-    F2Dot14_antt::f2dot14_bits, Fixed_antt::fixed_bits, Operations_antt::IsQuotient,
-};
-#[cfg(doc)]
-use crate::definitions::font_ids::NameId_antt::name_number;
-#[cfg(doc)]
-use crate::definitions::font_tags::Tag_antt::tag_bytes;
-#[cfg(doc)]
 use crate::definitions::variations::Evaluator_antt::{
-    HasAxis, HasRange, HasSegmentMap, IsAvar, IsFinal, IsFvar, IsMapped, ParsesSetting,
-    avar_axis_count, axis_bytes, fvar_axis_count, map_offset, segment_map_bytes,
+    AreCoordinates, HasAxis, HaveCoordinates, IsAvar, IsAxis, IsCoordinatesError, IsFvar,
+    ParsesSetting, fvar_axis_count,
 };
 
 use core::iter::FusedIterator;
@@ -67,8 +57,8 @@ impl core::fmt::Display for SettingError {
     fn fmt(&self, f: &mut core::fmt::Formatter<'_>) -> core::fmt::Result {
         match self {
             Self::NoValue => write!(f, "no `=`"),
-            Self::Axis(field_0, ..) => write!(f, "{field_0}"),
-            Self::Value(field_0, ..) => write!(f, "{field_0}"),
+            Self::Axis(field_0, ..) => write!(f, "axis: {field_0}"),
+            Self::Value(field_0, ..) => write!(f, "value: {field_0}"),
         }
     }
 }
@@ -105,20 +95,7 @@ impl FromStr for Setting {
 
 // ---- `fvar`: normalized coordinates
 
-/// A variation axis, a record of `fvar`.
-///
-/// ```
-/// use font_variations_proved::{Fixed, NameId, Tag, VariationAxisRecord};
-/// let axis = VariationAxisRecord {
-///     axis_tag: Tag::new(b"wght"),
-///     min_value: Fixed::from_i32(100),
-///     default_value: Fixed::from_i32(400),
-///     max_value: Fixed::from_i32(900),
-///     flags: 0,
-///     axis_name_id: NameId::new(256),
-/// };
-/// assert_eq!(axis.normalize(Fixed::from_i32(650)).unwrap().to_string(), "0.5");
-/// ```
+/// A variation axis, a record of `fvar`, from [`Fvar::axis`].
 ///
 /// The source and its contracts: `crates/variations/src/evaluator.rt`.
 #[derive(Clone, Copy, PartialEq, Eq, Hash, Debug)]
@@ -203,20 +180,9 @@ impl<'a> Fvar<'a> {
     ///
     /// ```text
     /// ensures variant { IsSome result ↔ HasAxis self.now.bytes.now index }
-    /// ensures axis_tag { IfSome result (λ axis.
-    ///     tag_bytes axis.axis_tag ≡ take 4 (axis_bytes self.now.bytes.now index)) }
-    /// ensures min_value { IfSome result (λ axis. fixed_bits axis.min_value
-    ///     ≡ signed_numeral 4 (take 4 (drop 4 (axis_bytes self.now.bytes.now index)))) }
-    /// ensures default_value { IfSome result (λ axis. fixed_bits axis.default_value
-    ///     ≡ signed_numeral 4 (take 4 (drop 8 (axis_bytes self.now.bytes.now index)))) }
-    /// ensures max_value { IfSome result (λ axis. fixed_bits axis.max_value
-    ///     ≡ signed_numeral 4 (take 4 (drop 12 (axis_bytes self.now.bytes.now index)))) }
-    /// ensures flags { IfSome result (λ axis. axis.flags
-    ///     ≡ numeral (take 2 (drop 16 (axis_bytes self.now.bytes.now index)))) }
-    /// ensures axis_name_id { IfSome result (λ axis. name_number axis.axis_name_id
-    ///     ≡ numeral (take 2 (drop 18 (axis_bytes self.now.bytes.now index)))) }
+    /// ensures value { IfSome result (λ axis. IsAxis self.now.bytes.now index axis) }
     /// ```
-    /// [Notation](crate::definitions): [`HasAxis`], [`tag_bytes`], [`axis_bytes`], [`fixed_bits`], [`signed_numeral`], [`numeral`], [`name_number`]
+    /// [Notation](crate::definitions): [`HasAxis`], [`IsAxis`]
     /// </details>
     #[must_use]
     pub fn axis(&self, index: u16) -> Option<VariationAxisRecord> {
@@ -226,6 +192,167 @@ impl<'a> Fvar<'a> {
         let start = usize::from(u16::read_at(self.bytes, 4)?);
         let size = usize::from(u16::read_at(self.bytes, 10)?);
         read_axis(self.bytes.get(start + size * usize::from(index)..)?)
+    }
+
+    /// Returns the axes, in order, up to the first that the table ends before.
+    ///
+    /// <details><summary>Contract</summary>
+    ///
+    /// ```text
+    /// ensures fvar { result.fvar.bytes.now ≡ self.now.bytes.now }
+    /// ensures index { result.index ≡ 0 }
+    /// ```
+    /// [Notation](crate::definitions)
+    /// </details>
+    #[must_use]
+    pub fn axes(&self) -> Axes<'a> {
+        Axes { fvar: *self, index: 0 }
+    }
+
+    /// Computes the coordinate of each axis at these settings, in the order of the axes.
+    ///
+    /// The value of an axis is that of its last setting, or the default if it has none; axes of one
+    /// tag have the same settings, and a setting of no axis of the font has no effect. The value is
+    /// clamped to the axis, and its distance from the default divided by that of the end on its
+    /// side, rounded to 16.16; `avar` maps the result, which is then rounded to 2.14.
+    ///
+    /// ```
+    /// use font_variations_proved::{Avar, F2Dot14, Fvar};
+    /// let fvar = b"\0\x01\0\0\0\x10\0\x02\0\x01\0\x14\0\0\0\x04\
+    ///     wght\0\x64\0\0\x01\x90\0\0\x03\x84\0\0\0\0\x01\0";
+    /// let (fvar, avar) = (Fvar::new(fvar).unwrap(), Avar::new(None).unwrap());
+    /// let settings = ["wght=300".parse().unwrap(), "wght=650".parse().unwrap()];
+    /// let mut coordinates = [F2Dot14::ZERO; 1];
+    /// fvar.coordinates(&avar, &settings, &mut coordinates).unwrap();
+    /// assert_eq!(coordinates[0].to_string(), "0.5");
+    /// ```
+    ///
+    /// OpenType allows an axis that is wider than 16.16 holds, such as one from -20000 to 20000. Its
+    /// values are not normalized, because the distances that are divided are numbers of 16.16, and
+    /// all of them fit only if `max - min` does.
+    ///
+    /// The time is linear in the length of `avar`, and in the number of axes times that of the
+    /// settings.
+    ///
+    /// # Errors
+    ///
+    /// `Places` unless `coordinates` are as many as the axes, and else `InvalidAxis` of the first
+    /// axis without a coordinate: a table ends before it or its map, or it is not in order, or it is
+    /// wider than 16.16 holds. Then `coordinates` are as before.
+    ///
+    /// <details><summary>Contract</summary>
+    ///
+    /// ```text
+    /// ensures variant { IsOk result ↔ ((length coordinates.old ≡ fvar_axis_count self.now.bytes.now)
+    ///     × HaveCoordinates self.now.bytes.now (option_map (λ avar. avar.now) avar.now.bytes)) }
+    /// ensures error { IfErr result (λ error. IsCoordinatesError self.now.bytes.now
+    ///     (option_map (λ avar. avar.now) avar.now.bytes) (length coordinates.old) error) }
+    /// ensures kept { IfErr result (λ _. coordinates.new ≡ coordinates.old) }
+    /// ensures len { length coordinates.new ≡ length coordinates.old }
+    /// ensures value { IfOk result (λ _. AreCoordinates self.now.bytes.now
+    ///     (option_map (λ avar. avar.now) avar.now.bytes) settings.now (length coordinates.new)
+    ///     coordinates.new) }
+    /// ```
+    /// [Notation](crate::definitions): [`fvar_axis_count`], [`HaveCoordinates`], [`IsCoordinatesError`], [`AreCoordinates`]
+    /// </details>
+    pub fn coordinates(
+        &self,
+        avar: &Avar<'_>,
+        settings: &[Setting],
+        coordinates: &mut [F2Dot14],
+    ) -> Result<(), CoordinatesError> {
+        if coordinates.len() != usize::from(self.axis_count()) {
+            return Err(CoordinatesError::Places);
+        }
+        if let Some(axis) = first_without(self, avar) {
+            return Err(CoordinatesError::InvalidAxis(axis));
+        }
+        write_coordinates(self, avar, settings, coordinates);
+        Ok(())
+    }
+}
+
+/// The axes of a table `fvar`, from [`Fvar::axes`].
+///
+/// ```
+/// use font_variations_proved::{Fvar, Tag};
+/// let fvar = b"\0\x01\0\0\0\x10\0\x02\0\x01\0\x14\0\0\0\x04\
+///     wght\0\x64\0\0\x01\x90\0\0\x03\x84\0\0\0\0\x01\0";
+/// let axes = Fvar::new(fvar).unwrap().axes();
+/// assert!(axes.map(|axis| axis.axis_tag).eq([Tag::new(b"wght")]));
+/// ```
+///
+/// The source and its contracts: `crates/variations/src/evaluator.rt`.
+#[derive(Debug)]
+pub struct Axes<'a> {
+    fvar: Fvar<'a>,
+    index: u16,
+}
+
+/// <details><summary>Contract</summary>
+///
+/// ```text
+/// ghost next_gives = { λ old result new. (new.fvar.bytes.now ≡ old.fvar.bytes.now)
+///     × (IsSome result ↔ HasAxis old.fvar.bytes.now old.index)
+///     × IfSome result (λ axis. IsAxis old.fvar.bytes.now old.index axis)
+///     × MatchOption result (new.index ≡ old.index) (λ _. new.index ≡ old.index + 1) };
+/// ghost remaining = { λ axes. at_most (fvar_axis_count axes.fvar.bytes.now - axes.index) };
+/// ```
+/// [Notation](crate::definitions): [`HasAxis`], [`IsAxis`], [`fvar_axis_count`]
+/// </details>
+impl<'a> Iterator for Axes<'a> {
+    type Item = VariationAxisRecord;
+
+    fn next(&mut self) -> Option<VariationAxisRecord> {
+        if self.index >= self.fvar.axis_count() {
+            return None;
+        }
+        let axis = self.fvar.axis(self.index)?;
+        self.index += 1;
+        Some(axis)
+    }
+}
+
+impl<'a> FusedIterator for Axes<'a> {}
+
+impl<'a> Clone for Axes<'a> {
+    fn clone(&self) -> Axes<'a> {
+        Axes { fvar: self.fvar, index: self.index }
+    }
+}
+
+/// Why the axes have no coordinates.
+///
+/// ```
+/// use font_variations_proved::{Avar, CoordinatesError, F2Dot14, Fvar};
+/// let fvar = b"\0\x01\0\0\0\x10\0\x02\0\x01\0\x14\0\0\0\x04\
+///     wght\0\x64\0\0\x01\x90\0\0\x03\x84\0\0\0\0\x01\0";
+/// let (fvar, avar) = (Fvar::new(fvar).unwrap(), Avar::new(None).unwrap());
+/// let mut coordinates = [F2Dot14::ONE; 2];
+/// let found = fvar.coordinates(&avar, &[], &mut coordinates);
+/// assert_eq!(found, Err(CoordinatesError::Places));
+/// assert_eq!(coordinates, [F2Dot14::ONE; 2]);
+/// ```
+///
+/// The source and its contracts: `crates/variations/src/evaluator.rt`.
+#[derive(Clone, Copy, PartialEq, Eq, Debug)]
+pub enum CoordinatesError {
+    /// The places are more or fewer than the axes.
+    Places,
+    /// The axis with this number has no coordinate.
+    InvalidAxis(u16),
+}
+
+impl core::error::Error for CoordinatesError {}
+
+impl core::fmt::Display for CoordinatesError {
+    fn fmt(&self, f: &mut core::fmt::Formatter<'_>) -> core::fmt::Result {
+        match self {
+            Self::Places => write!(f, "not one place for each axis"),
+            Self::InvalidAxis(field_0, ..) => {
+                write!(f, "axis {field_0}: invalid, or without a map")
+            }
+        }
     }
 }
 
@@ -263,58 +390,13 @@ fn has_range(axis: VariationAxisRecord) -> bool {
         && axis.max_value.checked_sub(axis.min_value).is_some()
 }
 
-impl VariationAxisRecord {
-    /// Normalizes a value to -1..1: clamps it to the axis, and divides its distance from the default
-    /// by that of the end on its side. Returns `None` unless `min <= default <= max` and 16.16
-    /// holds `max - min`.
-    ///
-    /// OpenType allows a wider axis, such as one from -20000 to 20000. Its values are not
-    /// normalized, because the distances that are divided are numbers of 16.16, and all of them fit
-    /// only if `max - min` does.
-    ///
-    /// <details><summary>Contract</summary>
-    ///
-    /// ```text
-    /// ensures variant { IsSome result ↔ HasRange (fixed_bits self.now.min_value)
-    ///     (fixed_bits self.now.default_value) (fixed_bits self.now.max_value) }
-    /// ensures default { IfSome result (λ coordinate. fixed_bits value ≡ fixed_bits self.now.default_value
-    ///     → fixed_bits coordinate ≡ pos 0) }
-    /// ensures above { IfSome result (λ coordinate. fixed_bits self.now.default_value <ℤ fixed_bits value
-    ///     → fixed_bits value ≤ℤ fixed_bits self.now.max_value
-    ///     → IsQuotient 32 16 (fixed_bits value -ℤ fixed_bits self.now.default_value)
-    ///     (fixed_bits self.now.max_value -ℤ fixed_bits self.now.default_value) (fixed_bits coordinate)) }
-    /// ensures below { IfSome result (λ coordinate. fixed_bits value <ℤ fixed_bits self.now.default_value
-    ///     → fixed_bits self.now.min_value ≤ℤ fixed_bits value
-    ///     → IsQuotient 32 16 (fixed_bits self.now.default_value -ℤ fixed_bits value)
-    ///     (fixed_bits self.now.default_value -ℤ fixed_bits self.now.min_value)
-    ///     (neg_ℤ (fixed_bits coordinate))) }
-    /// ensures no_rise { IfSome result (λ coordinate.
-    ///     fixed_bits self.now.max_value ≡ fixed_bits self.now.default_value
-    ///     → fixed_bits self.now.default_value ≤ℤ fixed_bits value → fixed_bits coordinate ≡ pos 0) }
-    /// ensures no_fall { IfSome result (λ coordinate.
-    ///     fixed_bits self.now.min_value ≡ fixed_bits self.now.default_value
-    ///     → fixed_bits value ≤ℤ fixed_bits self.now.default_value → fixed_bits coordinate ≡ pos 0) }
-    /// ensures max { IfSome result (λ coordinate.
-    ///     fixed_bits self.now.default_value <ℤ fixed_bits self.now.max_value
-    ///     → fixed_bits self.now.max_value ≤ℤ fixed_bits value
-    ///     → fixed_bits coordinate ≡ fixed_bits Fixed.ONE) }
-    /// ensures min { IfSome result (λ coordinate.
-    ///     fixed_bits self.now.min_value <ℤ fixed_bits self.now.default_value
-    ///     → fixed_bits value ≤ℤ fixed_bits self.now.min_value
-    ///     → fixed_bits coordinate ≡ fixed_bits Fixed.NEG_ONE) }
-    /// ensures low { IfSome result (λ coordinate. fixed_bits Fixed.NEG_ONE ≤ℤ fixed_bits coordinate) }
-    /// ensures high { IfSome result (λ coordinate. fixed_bits coordinate ≤ℤ fixed_bits Fixed.ONE) }
-    /// ```
-    /// [Notation](crate::definitions): [`HasRange`], [`fixed_bits`], [`IsQuotient`]
-    /// </details>
-    #[must_use]
-    pub fn normalize(&self, value: Fixed) -> Option<Fixed> {
-        if has_range(*self) {
-            let clamped = clamp(value, self.min_value, self.max_value);
-            Some(normalize_clamped(clamped, *self))
-        } else {
-            None
-        }
+// Normalizes a value to -1..1, or returns `None` unless the axis has a range.
+fn normalize(axis: VariationAxisRecord, value: Fixed) -> Option<Fixed> {
+    if has_range(axis) {
+        let clamped = clamp(value, axis.min_value, axis.max_value);
+        Some(normalize_clamped(clamped, axis))
+    } else {
+        None
     }
 }
 
@@ -337,15 +419,14 @@ fn to_stored(coordinate: Fixed) -> F2Dot14 {
 
 // ---- `avar`: segment maps
 
-/// A table `avar` of major version 1.
+/// The maps of the axes: those of a table `avar` of major version 1, or none in a font without it.
 ///
 /// ```
-/// use font_variations_proved::{Avar, Fixed};
-/// // One axis, with four mappings: -1 and 0 to themselves, 0.5 to 0.25, and 1 to itself.
-/// let avar = b"\0\x01\0\0\0\0\0\x01\0\x04\xC0\0\xC0\0\0\0\0\0\x20\0\x10\0\x40\0\x40\0";
-/// let map = Avar::new(avar).unwrap().segment_map(0).unwrap();
-/// let half = Fixed::from_decimal("0.5").unwrap();
-/// assert_eq!(map.final_coordinate(half).to_string(), "0.25");
+/// use font_variations_proved::Avar;
+/// assert!(Avar::new(None).is_some());
+/// // No axis; and the same of major version 2, which maps coordinates further.
+/// assert!(Avar::new(Some(b"\0\x01\0\0\0\0\0\0")).is_some());
+/// assert!(Avar::new(Some(b"\0\x02\0\0\0\0\0\0")).is_none());
 /// ```
 ///
 /// The source and its contracts: `crates/variations/src/evaluator.rt`.
@@ -353,222 +434,123 @@ fn to_stored(coordinate: Fixed) -> F2Dot14 {
 /// <details><summary>Contract</summary>
 ///
 /// ```text
-/// ghost header: { IsAvar bytes.now },
+/// ghost header: { ForSome bytes (λ bytes. IsAvar bytes.now) },
 /// ```
 /// [Notation](crate::definitions): [`IsAvar`]
 /// </details>
 #[derive(Clone, Copy, PartialEq, Eq, Hash, Debug)]
 pub struct Avar<'a> {
-    bytes: &'a [u8],
+    bytes: Option<&'a [u8]>,
 }
 
 impl<'a> Avar<'a> {
     /// Returns the table that begins at these bytes, or `None` if its major version is not 1, or it
-    /// ends before its header does.
+    /// ends before its header does. Takes `None` for a font without the table.
     ///
     /// <details><summary>Contract</summary>
     ///
     /// ```text
-    /// ensures variant { IsSome result ↔ IsAvar bytes.now }
-    /// ensures bytes { IfSome result (λ avar. avar.bytes.now ≡ bytes.now) }
+    /// ensures variant { IsSome result ↔ IfSome bytes.entry (λ bytes. IsAvar bytes.now) }
+    /// ensures bytes { IfSome result (λ avar. avar.bytes ≡ bytes.entry) }
     /// ```
     /// [Notation](crate::definitions): [`IsAvar`]
     /// </details>
     #[must_use]
-    pub fn new(bytes: &'a [u8]) -> Option<Avar<'a>> {
-        if u16::read_at(bytes, 0)? != 1 || bytes.len() < 8 {
+    pub fn new(bytes: Option<&'a [u8]>) -> Option<Avar<'a>> {
+        let Some(table) = bytes else {
+            return Some(Avar { bytes });
+        };
+        if u16::read_at(table, 0)? != 1 || table.len() < 8 {
             return None;
         }
         Some(Avar { bytes })
     }
 
-    /// Returns the number of axes.
-    ///
-    /// <details><summary>Contract</summary>
-    ///
-    /// ```text
-    /// ensures { result ≡ avar_axis_count self.now.bytes.now }
-    /// ```
-    /// [Notation](crate::definitions): [`avar_axis_count`]
-    /// </details>
-    #[must_use]
-    pub fn axis_count(&self) -> u16 {
-        u16::read_at(self.bytes, 6).unwrap_or(0)
-    }
-
-    /// Returns the segment map of an axis, or `None` if the table has no such axis, or ends before
-    /// the map does.
-    ///
-    /// The maps of the axes before it are walked, so for all axes use
-    /// [`segment_maps`](Avar::segment_maps).
-    ///
-    /// <details><summary>Contract</summary>
-    ///
-    /// ```text
-    /// ensures variant { IsSome result ↔ HasSegmentMap self.now.bytes.now axis }
-    /// ensures value { IfSome result (λ map.
-    ///     map.mappings.now ≡ segment_map_bytes self.now.bytes.now axis) }
-    /// ```
-    /// [Notation](crate::definitions): [`HasSegmentMap`], [`segment_map_bytes`]
-    /// </details>
-    #[must_use]
-    pub fn segment_map(&self, axis: u16) -> Option<SegmentMap<'a>> {
-        let mappings = find_mappings(self.bytes, axis)?;
-        Some(SegmentMap { mappings })
-    }
-
-    /// Returns the segment maps of the axes, in order, up to the first that the table does not
-    /// have. Each is found in the same time.
-    ///
-    /// <details><summary>Contract</summary>
-    ///
-    /// ```text
-    /// ensures avar { result.avar.now ≡ self.now.bytes.now }
-    /// ensures axis { result.axis ≡ 0 }
-    /// ```
-    /// [Notation](crate::definitions)
-    /// </details>
-    #[must_use]
-    pub fn segment_maps(&self) -> SegmentMaps<'a> {
-        SegmentMaps { avar: self.bytes, axis: 0, start: 8 }
+    // Returns the mappings of an axis, each of four bytes, and where the map of the next axis
+    // starts. In a font without the table the mappings are none.
+    fn mappings(&self, axis: u16, start: usize) -> Option<(&'a [u8], usize)> {
+        match self.bytes {
+            Some(avar) => mappings_at(avar, axis, start),
+            None => Some((&[], start)),
+        }
     }
 }
 
-// Finds the mappings of an axis in a table `avar`, each of four bytes.
-fn find_mappings(avar: &[u8], axis: u16) -> Option<&[u8]> {
+// Returns the mappings of an axis whose map starts here, and where the next map starts.
+fn mappings_at(avar: &[u8], axis: u16, start: usize) -> Option<(&[u8], usize)> {
     if axis >= u16::read_at(avar, 6)? {
         return None;
     }
-    let mut start = 8;
-    for _ in 0..axis {
-        start += 2 + 4 * usize::from(u16::read_at(avar, start)?);
-    }
-    let count = u16::read_at(avar, start)?;
-    avar.get(start + 2..)?.get(..4 * usize::from(count))
+    let len = 4 * usize::from(u16::read_at(avar, start)?);
+    let mappings = avar.get(start + 2..)?.get(..len)?;
+    Some((mappings, start + 2 + len))
 }
 
-/// The segment maps of a table `avar`, from [`Avar::segment_maps`].
-///
-/// ```
-/// use font_variations_proved::{Avar, SegmentMap};
-/// // Two axes, without mappings.
-/// let avar = [0, 1, 0, 0, 0, 0, 0, 2, 0, 0, 0, 0];
-/// let maps: Vec<SegmentMap> = Avar::new(&avar).unwrap().segment_maps().collect();
-/// assert_eq!(maps, [SegmentMap::default(); 2]);
-/// ```
-///
-/// The source and its contracts: `crates/variations/src/evaluator.rt`.
-///
-/// <details><summary>Contract</summary>
-///
-/// ```text
-/// ghost there: { start ≡ map_offset avar.now axis },
-/// ```
-/// [Notation](crate::definitions): [`map_offset`]
-/// </details>
-#[derive(Debug)]
-pub struct SegmentMaps<'a> {
-    avar: &'a [u8],
-    axis: u16,
+// Maps a coordinate. One below or above all mappings does not change.
+fn mapped(coordinate: Fixed, map: &[u8]) -> Fixed {
+    match segment_end(coordinate, map) {
+        Some(end) => map_in_segment(coordinate, map, end),
+        None => coordinate,
+    }
+}
+
+// Returns the coordinate of a value on an axis by its mappings, or `None` unless the axis has a
+// range.
+fn coordinate(axis: VariationAxisRecord, value: Fixed, map: &[u8]) -> Option<F2Dot14> {
+    let normalized = normalize(axis, value)?;
+    Some(to_stored(mapped(normalized, map)))
+}
+
+// ---- the coordinates of an instance
+
+// Returns the value of an axis: that of its last setting, or the default.
+fn value_of(axis: VariationAxisRecord, settings: &[Setting]) -> Fixed {
+    let mut value = axis.default_value;
+    for setting in settings {
+        if setting.axis == axis.axis_tag {
+            value = setting.value;
+        }
+    }
+    value
+}
+
+// Returns the coordinate along an axis, and where the map of the next axis starts.
+fn coordinate_along(
+    fvar: &Fvar<'_>,
+    avar: &Avar<'_>,
+    settings: &[Setting],
+    index: u16,
     start: usize,
+) -> Option<(F2Dot14, usize)> {
+    let axis = fvar.axis(index)?;
+    let (map, next) = avar.mappings(index, start)?;
+    Some((coordinate(axis, value_of(axis, settings), map)?, next))
 }
 
-/// <details><summary>Contract</summary>
-///
-/// ```text
-/// ghost next_gives = { λ old result new. (new.avar.now ≡ old.avar.now)
-///     × (IsSome result ↔ HasSegmentMap old.avar.now old.axis)
-///     × IfSome result (λ map. map.mappings.now ≡ segment_map_bytes old.avar.now old.axis)
-///     × MatchOption result (new.axis ≡ old.axis) (λ _. new.axis ≡ old.axis + 1) };
-/// ghost remaining = { λ maps. at_most (avar_axis_count maps.avar.now - maps.axis) };
-/// ```
-/// [Notation](crate::definitions): [`HasSegmentMap`], [`segment_map_bytes`], [`avar_axis_count`]
-/// </details>
-impl<'a> Iterator for SegmentMaps<'a> {
-    type Item = SegmentMap<'a>;
-
-    fn next(&mut self) -> Option<SegmentMap<'a>> {
-        if self.axis >= u16::read_at(self.avar, 6)? {
-            return None;
-        }
-        let count = usize::from(u16::read_at(self.avar, self.start)?);
-        let mappings = self.avar.get(self.start + 2..)?.get(..4 * count)?;
-        *self =
-            SegmentMaps { avar: self.avar, axis: self.axis + 1, start: self.start + 2 + 4 * count };
-        Some(SegmentMap { mappings })
+// Returns the first axis without a coordinate.
+fn first_without(fvar: &Fvar<'_>, avar: &Avar<'_>) -> Option<u16> {
+    let mut start = 8;
+    for axis in 0..fvar.axis_count() {
+        let Some((_, next)) = coordinate_along(fvar, avar, &[], axis, start) else {
+            return Some(axis);
+        };
+        start = next;
     }
+    None
 }
 
-impl<'a> FusedIterator for SegmentMaps<'a> {}
-
-impl<'a> Clone for SegmentMaps<'a> {
-    fn clone(&self) -> SegmentMaps<'a> {
-        SegmentMaps { avar: self.avar, axis: self.axis, start: self.start }
-    }
-}
-
-/// The mappings of an axis, by which its coordinates change. A font without `avar` has none:
-/// `SegmentMap::default()`.
-///
-/// ```
-/// use font_variations_proved::{Fixed, SegmentMap};
-/// let half = Fixed::from_decimal("0.5").unwrap();
-/// assert_eq!(SegmentMap::default().map(half), half);
-/// ```
-///
-/// The source and its contracts: `crates/variations/src/evaluator.rt`.
-#[derive(Clone, Copy, PartialEq, Eq, Hash, Debug)]
-pub struct SegmentMap<'a> {
-    mappings: &'a [u8],
-}
-
-/// No mappings.
-///
-/// <details><summary>Contract</summary>
-///
-/// ```text
-/// ghost is_default = { λ map. map.mappings.now ≡ [] };
-/// ```
-/// [Notation](crate::definitions)
-/// </details>
-impl<'a> Default for SegmentMap<'a> {
-    fn default() -> SegmentMap<'a> {
-        SegmentMap { mappings: &[] }
-    }
-}
-
-impl<'a> SegmentMap<'a> {
-    /// Maps a coordinate. One below or above all mappings does not change.
-    ///
-    /// <details><summary>Contract</summary>
-    ///
-    /// ```text
-    /// ensures { IsMapped coordinate self.now.mappings.now result }
-    /// ```
-    /// [Notation](crate::definitions): [`IsMapped`]
-    /// </details>
-    #[must_use]
-    pub fn map(&self, coordinate: Fixed) -> Fixed {
-        match segment_end(coordinate, self.mappings) {
-            Some(end) => map_in_segment(coordinate, self.mappings, end),
-            None => coordinate,
-        }
-    }
-
-    /// Maps a coordinate from [`normalize`](VariationAxisRecord::normalize), and then rounds it to 2.14.
-    ///
-    /// <details><summary>Contract</summary>
-    ///
-    /// ```text
-    /// ensures value { IsFinal coordinate self.now.mappings.now result }
-    /// ensures low { f2dot14_bits F2Dot14.NEG_ONE ≤ℤ f2dot14_bits result }
-    /// ensures high { f2dot14_bits result ≤ℤ f2dot14_bits F2Dot14.ONE }
-    /// ```
-    /// [Notation](crate::definitions): [`IsFinal`], [`f2dot14_bits`]
-    /// </details>
-    #[must_use]
-    pub fn final_coordinate(&self, coordinate: Fixed) -> F2Dot14 {
-        to_stored(self.map(coordinate))
+// Writes the coordinates of all axes.
+fn write_coordinates(
+    fvar: &Fvar<'_>,
+    avar: &Avar<'_>,
+    settings: &[Setting],
+    coordinates: &mut [F2Dot14],
+) {
+    let mut start = 8;
+    for index in 0..fvar.axis_count() {
+        let (coordinate, next) = coordinate_along(fvar, avar, settings, index, start).unwrap();
+        coordinates[usize::from(index)] = coordinate;
+        start = next;
     }
 }
 

@@ -20,7 +20,7 @@ mod regions;
 
 pub use advances::Hvar;
 pub use evaluator::{
-    Avar, Fvar, SegmentMap, SegmentMaps, Setting, SettingError, VariationAxisRecord,
+    Avar, Axes, CoordinatesError, Fvar, Setting, SettingError, VariationAxisRecord,
 };
 pub use instances::{ItemVariationStore, StoreInstance};
 pub use maps::{DeltaSetIndex, DeltaSetIndexMap};

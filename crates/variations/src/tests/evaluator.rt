@@ -1,7 +1,7 @@
 //! An evaluator of variations: what `variations/tests` does not see.
 
-use crate::{Avar, Fvar, SegmentMap, VariationAxisRecord};
-use font_types::{F2Dot14, Fixed, NameId, Tag};
+use crate::{Avar, CoordinatesError, Fvar, Setting, VariationAxisRecord};
+use font_types::{F2Dot14, Fixed, NameId, Scalar, Tag};
 use std::test::Fail;
 
 // One axis, in records of 21 bytes, the first of which begins at 17.
@@ -45,9 +45,31 @@ fn axis_records(rt: HostRuntime) -> Result<(), Fail> {
     Ok(())
 }
 
+// The coordinate of a value on the axis with this range.
+fn coordinate_of(range: [Fixed; 3], value: Fixed, avar: Option<&[u8]>) -> Option<F2Dot14> {
+    let (mut fvar, [min, default, max]) = (FVAR, range);
+    min.write_at(&mut fvar, 21)?;
+    default.write_at(&mut fvar, 25)?;
+    max.write_at(&mut fvar, 29)?;
+    let settings = [Setting {
+        axis: Tag::new(b"wght"),
+        value,
+    }];
+    let (fvar, mut coordinates) = (Fvar::new(&fvar)?, [F2Dot14::ZERO]);
+    fvar.coordinates(&Avar::new(avar)?, &settings, &mut coordinates)
+        .ok()?;
+    Some(coordinates[0])
+}
+
+// The coordinate of a number of 16.16 from -1 to 1.
+fn stored(bits: i32, avar: Option<&[u8]>) -> Option<F2Dot14> {
+    let range = [Fixed::NEG_ONE, Fixed::ZERO, Fixed::ONE];
+    coordinate_of(range, Fixed::from_bits(bits), avar)
+}
+
 #[test]
 fn coordinates_stored(rt: HostRuntime) {
-    for &(bits, stored) in &[
+    for &(bits, wanted) in &[
         (0x2_0000, 0x4000),
         (-0x1_0001, -0x4000),
         (-0x8002, -0x2000),
@@ -56,39 +78,33 @@ fn coordinates_stored(rt: HostRuntime) {
         (0x8001, 0x2000),
         (0, 0),
     ] {
-        let coordinate = SegmentMap::default().final_coordinate(Fixed::from_bits(bits));
-        assert!(rt; coordinate == F2Dot14::from_bits(stored), "{bits}");
+        assert!(rt;
+            stored(bits, None) == Some(F2Dot14::from_bits(wanted)),
+            "{bits}"
+        );
     }
 }
 
 #[test]
 fn coordinates_normalized(rt: HostRuntime) {
     for &(min, default, max, value, bits) in &[
-        (100, 400, 900, 650, Some(0x8000)),
-        (100, 400, 900, 300, Some(-0x5555)),
-        (100, 400, 900, 0, Some(-0x1_0000)),
-        (100, 400, 900, 1000, Some(0x1_0000)),
+        (100, 400, 900, 650, Some(0x2000)),
+        (100, 400, 900, 300, Some(-0x1555)),
+        (100, 400, 900, 0, Some(-0x4000)),
+        (100, 400, 900, 1000, Some(0x4000)),
         (400, 400, 900, 100, Some(0)),
         (100, 400, 400, 900, Some(0)),
         // Out of order.
         (401, 400, 900, 650, None),
         (100, 400, 399, 650, None),
         // As wide as 16.16 holds, and wider by one.
-        (-0x4000, 0, 0x3FFF, 0x3FFF, Some(0x1_0000)),
+        (-0x4000, 0, 0x3FFF, 0x3FFF, Some(0x4000)),
         (-0x4000, 0, 0x4000, 0, None),
     ] {
-        let [min_value, default_value, max_value] = [min, default, max].map(Fixed::from_i32);
-        let axis = VariationAxisRecord {
-            axis_tag: Tag::new(b"wght"),
-            min_value,
-            default_value,
-            max_value,
-            flags: 0,
-            axis_name_id: NameId::new(256),
-        };
-        let coordinate = axis.normalize(Fixed::from_i32(value));
+        let range = [min, default, max].map(Fixed::from_i32);
+        let coordinate = coordinate_of(range, Fixed::from_i32(value), None);
         assert!(rt;
-            coordinate == bits.map(Fixed::from_bits),
+            coordinate == bits.map(F2Dot14::from_bits),
             "{value} of {min}, {default}, {max}"
         );
     }
@@ -99,84 +115,114 @@ const MAPPED: [u8; 26] = [
     0, 1, 0, 0, 0, 0, 0, 1, 0, 4, 0xC0, 0, 0xC0, 0, 0, 0, 0, 0, 0x20, 0, 0x10, 0, 0x40, 0, 0x40, 0,
 ];
 
-// The map of an axis.
-fn map_of(avar: &[u8], axis: u16) -> Option<SegmentMap<'_>> {
-    Avar::new(avar)?.segment_map(axis)
-}
-
 #[test]
-fn coordinates_mapped(rt: HostRuntime) -> Result<(), Fail> {
-    let map = map_of(&MAPPED, 0).ok_or("a map")?;
-    for &(bits, mapped) in &[
-        (-0x1_0001, -0x1_0001),
-        (-0x1_0000, -0x1_0000),
-        (-0x4000, -0x4000),
+fn coordinates_mapped(rt: HostRuntime) {
+    for &(bits, wanted) in &[
+        (-0x1_0001, -0x4000),
+        (-0x1_0000, -0x4000),
+        (-0x4000, -0x1000),
         (0, 0),
-        (0x4000, 0x2000),
-        (0x7FFF, 0x4000),
-        (0x8000, 0x4000),
-        (0x8001, 0x4002),
-        (0xC000, 0xA000),
-        (0x1_0000, 0x1_0000),
-        (0x1_0001, 0x1_0001),
+        (0x4000, 0x800),
+        (0x7FFF, 0x1000),
+        (0x8000, 0x1000),
+        // It is mapped to 0x4002.
+        (0x8001, 0x1001),
+        (0xC000, 0x2800),
+        (0x1_0000, 0x4000),
+        (0x1_0001, 0x4000),
+        // It is mapped to 32768.5, which is rounded to 32769 and then to 8192 of 2.14; from 10923 of
+        // 2.14 on, the map would give 32770 and 8193.
+        (43691, 8192),
     ] {
-        let coordinate = Fixed::from_bits(bits);
-        assert!(rt; map.map(coordinate) == Fixed::from_bits(mapped), "{bits}");
-        assert!(rt;
-            SegmentMap::default().map(coordinate) == coordinate,
-            "{bits} by no mapping"
-        );
+        let coordinate = stored(bits, Some(&MAPPED));
+        assert!(rt; coordinate == Some(F2Dot14::from_bits(wanted)), "{bits}");
     }
-    // 43691 is mapped to 32768.5, which is rounded to 32769 and then to 8192 of 2.14; from 10923 of
-    // 2.14 on, the map would give 32770 and 8193.
-    for &(bits, stored) in &[(43691, 8192), (0x2_0000, 0x4000), (0x4000, 0x800)] {
-        let coordinate = map.final_coordinate(Fixed::from_bits(bits));
-        assert!(rt; coordinate == F2Dot14::from_bits(stored), "{bits} stored");
-    }
-    Ok(())
 }
 
-// Three axes: a map of one mapping, one of none, and one of two.
+// Three axes from -1 by 0 to 1, of which the first two have one tag.
+const THREE: [u8; 76] = *b"\x00\x01\x00\x00\x00\x10\x00\x02\x00\x03\x00\x14\x00\x00\x00\x00\
+    wght\xFF\xFF\x00\x00\x00\x00\x00\x00\x00\x01\x00\x00\x00\x00\x00\x00\
+    wght\xFF\xFF\x00\x00\x00\x00\x00\x00\x00\x01\x00\x00\x00\x00\x00\x00\
+    wdth\xFF\xFF\x00\x00\x00\x00\x00\x00\x00\x01\x00\x00\x00\x00\x00\x00";
+
+// A map of one mapping, one of none, and one of two.
 const AVAR: [u8; 26] = [
     0, 1, 0, 0, 0, 0, 0, 3, 0, 1, 1, 2, 3, 4, 0, 0, 0, 2, 5, 6, 7, 8, 9, 10, 11, 12,
 ];
 
-// Two axes: no mapping, and both of the third map above.
-const SAME: [u8; 20] = [
-    0, 1, 0, 0, 0, 0, 0, 2, 0, 0, 0, 2, 5, 6, 7, 8, 9, 10, 11, 12,
-];
+// The setting of an axis to a number of 2.14.
+fn set_to(axis: &[u8; 4], bits: i16) -> Setting {
+    Setting {
+        axis: Tag::new(axis),
+        value: F2Dot14::from_bits(bits).to_fixed(),
+    }
+}
 
 #[test]
-fn segment_maps(rt: HostRuntime) -> Result<(), Fail> {
-    for &(axis, end) in &[(0, 14), (1, 16), (2, 26)] {
-        for len in 0..=AVAR.len() {
-            let map = map_of(&AVAR[..len], axis);
-            assert!(rt; map.is_some() == (len >= end), "{axis} of {len} bytes");
-        }
+fn coordinates_of_three_axes(rt: HostRuntime) -> Result<(), Fail> {
+    let (fvar, avar) = (
+        Fvar::new(&THREE).ok_or("axes")?,
+        Avar::new(Some(&AVAR)).ok_or("maps")?,
+    );
+    let mut at = [F2Dot14::ONE; 3];
+    for &(settings, wanted) in &[
+        (
+            [set_to(b"wght", 0x102), set_to(b"wdth", 0x506)],
+            [0x304, 0x102, 0x708],
+        ),
+        // Of two settings of an axis the last counts, and one of no axis does not.
+        (
+            [set_to(b"wght", 0x102), set_to(b"wght", 0x506)],
+            [0x506, 0x506, 0],
+        ),
+        (
+            [set_to(b"wght", 0x506), set_to(b"wght", 0x102)],
+            [0x304, 0x102, 0],
+        ),
+        (
+            [set_to(b"Wght", 0x102), set_to(b"wdth", 0x90A)],
+            [0, 0, 0xB0C],
+        ),
+    ] {
+        let found = fvar.coordinates(&avar, &settings, &mut at);
+        assert!(rt; found == Ok(()) && at == wanted.map(F2Dot14::from_bits));
     }
-    let (avar, same) = (Avar::new(&AVAR).ok_or("3")?, Avar::new(&SAME).ok_or("2")?);
-    assert!(rt; avar.axis_count() == 3 && avar.segment_map(3).is_none());
-    assert!(rt; avar.segment_map(1) == Some(SegmentMap::default()));
-    assert!(rt; avar.segment_map(2) == same.segment_map(1));
-    assert!(rt; avar.segment_map(0) != avar.segment_map(1));
-    for len in 8..=AVAR.len() {
-        let avar = Avar::new(&AVAR[..len]).ok_or("a header")?;
-        let mut maps = avar.segment_maps();
-        for axis in 0..4 {
-            let there = avar.segment_map(axis);
-            assert!(rt; maps.next() == there, "{axis} of {len} bytes");
-            if there.is_none() {
-                break;
-            }
-        }
-        assert!(rt; maps.next().is_none());
+    Ok(())
+}
+
+#[test]
+fn axes_without_coordinates(rt: HostRuntime) -> Result<(), Fail> {
+    let fvar = Fvar::new(&THREE).ok_or("axes")?;
+    for len in 0..=AVAR.len() {
+        let Some(avar) = Avar::new(Some(&AVAR[..len])) else {
+            assert!(rt; len < 8);
+            continue;
+        };
+        let mut at = [F2Dot14::ONE; 3];
+        let found = fvar.coordinates(&avar, &[], &mut at);
+        let wanted = match len {
+            0..14 => Err(CoordinatesError::InvalidAxis(0)),
+            14..16 => Err(CoordinatesError::InvalidAxis(1)),
+            16..26 => Err(CoordinatesError::InvalidAxis(2)),
+            _ => Ok(()),
+        };
+        assert!(rt; found == wanted, "{len} bytes");
+        assert!(rt; found.is_ok() || at == [F2Dot14::ONE; 3]);
     }
+    let (none, mut four) = (Avar::new(None).ok_or("none")?, [F2Dot14::ONE; 4]);
+    let found = fvar.coordinates(&none, &[], &mut four);
+    assert!(rt; found == Err(CoordinatesError::Places) && four == [F2Dot14::ONE; 4]);
+    let found = fvar.coordinates(&none, &[], &mut four[..2]);
+    assert!(rt; found == Err(CoordinatesError::Places) && four == [F2Dot14::ONE; 4]);
+    let short = Fvar::new(&THREE[..75]).ok_or("a header")?;
+    let found = short.coordinates(&none, &[], &mut four[..3]);
+    assert!(rt; found == Err(CoordinatesError::InvalidAxis(2)));
     // Of another major version, and of a later minor one.
     for &(byte, value, is_there) in &[(1, 0, false), (1, 2, false), (0, 1, false), (3, 1, true)] {
         let mut table = AVAR;
         table[byte] = value;
         assert!(rt;
-            Avar::new(&table).is_some() == is_there,
+            Avar::new(Some(&table)).is_some() == is_there,
             "{value} at {byte}"
         );
     }
