@@ -12,6 +12,7 @@ use Rattle.font_types.proofs.Parts.{part_calls, unit_calls, between_calls, lerp_
 use Rattle.font_types.proofs.Narrowed.{exact_narrow_calls, exact_sum_is_integral, negation_is_integral}
 use Rattle.font_types.proofs.{Searches.search_calls, StoredBytes.stored_calls, ShortProducts.short_product_calls}
 use Rattle.font_types.proofs.{ArrayNumbers.array_number_calls, Below.below_calls, Writes.write_calls}
+use Rattle.font_types.proofs.Fields.{field_calls, record_calls}
 pub use Rattle.font_base.proofs.ScalarCalls.{absent, nowhere, rises_by}
 pub use Rattle.font_base.proofs.Moved.{bytes_moved}
 pub use Rattle.font_base.specs.Wrap.Laws.{wrap_is, wrap_unique, wrap-fits}
@@ -44,8 +45,8 @@ pub ruleset numbers = (fixed_calls, calls_16, calls_64)
 -- integers, and numbers that are widened or narrowed
 pub ruleset conversions = (integral_calls, exact_sum_is_integral, narrow_calls, quarter_neg_one)
 
--- scalars, arrays and searches
-pub ruleset arrays = (scalar_calls, search_calls, stored_calls, array_number_calls)
+-- scalars, records, arrays and searches
+pub ruleset arrays = (scalar_calls, search_calls, stored_calls, array_number_calls, field_calls)
 
 -- sums of loops
 pub ruleset sums = (sum_calls_from, sum_calls_16, sum_calls_32, delta_rules, below_calls)
@@ -79,3 +80,6 @@ pub ruleset orders = (order_calls)
 
 -- for several writes in one body
 pub ruleset writes = (write_calls)
+
+-- for a record that is encoded and decoded, in place of `calls`
+pub ruleset records = (record_calls)

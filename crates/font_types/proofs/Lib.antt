@@ -7,4 +7,5 @@ pub mod Narrowed
 pub mod ArrayNumbers
 pub mod Below
 pub mod Writes
+pub mod Fields
 pub mod Callers
