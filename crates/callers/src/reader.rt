@@ -1,14 +1,16 @@
 //! A reader of tables: vertical origins, in `VORG`.
 
 ghost use Rattle.std.specs.Prelude.{◌≡◌, ◌↔◌, ◌≤◌, ◌<◌, ◌+◌, ◌^◌, ◌&&◌, ◌++◌, pos, nat_lt, refl};
-ghost use Rattle.std.specs.Prelude.{IsSome, IfSome, MatchOption, length, take, drop};
+ghost use Rattle.std.specs.Prelude.{IsSome, IfSome, MatchOption, Some, ℕ, length, take, drop};
 ghost use Rattle.std.specs.Ordering.{nat_cmp};
 ghost use Rattle.std.proofs.Common.{lit<};
 ghost use Rattle.font_types.specs.Bytes.{numeral, signed_numeral, bytes_of};
 ghost use Rattle.font_types.specs.Scalar.Laws.{unsigned_newtype, signed_newtype};
 ghost use Rattle.font_types.specs.FWord.{fword_number, fword_of};
 ghost use Rattle.font_types.specs.GlyphId.{glyph16_number, glyph16_of};
-ghost use Rattle.font_types.specs.{Records.record_laws, Array.IsSearched, Wrap.fits_bits};
+ghost use Rattle.font_types.specs.Array.{IsSearched, array_len, element_bytes};
+ghost use Rattle.font_types.specs.{Records.record_laws, Wrap.fits_bits};
+ghost use Rattle.callers.specs.Reader.{metrics_bytes};
 
 use font_types::{
     BigEndian, FWord, FixedSize, GlyphId16, Scalar, ScalarArray, TableDataRef, TableHeader,
@@ -115,4 +117,67 @@ pub fn origin_index(
         (λ pair. nat_cmp (glyph16_number pair.glyph) (glyph16_number glyph)) result }
 {
     origins.binary_search_by(|record| record.glyph.cmp(&glyph))
+}
+
+/// Reads the record that a search found: the vertical origin of a glyph, if it has a record.
+///
+/// The search is a function of its own, so that `IsSearched` names the key of a record.
+pub fn origin_of(origins: ScalarArray<'_, GlyphOrigin>, glyph: GlyphId16) -> Option<FWord>
+    ensures { IfSome result (λ origin. (i : ℕ) × (i < array_len origins.entry)
+        × (element_bytes origins.entry i
+        ≡ bytes_of 2 (pos (glyph16_number glyph)) ++ bytes_of 2 (fword_number origin))) }
+{
+    let index = origin_index(&origins, glyph).ok()?;
+    Some(origins.get(index)?.origin)
+}
+
+/// Writes a record and reads it: itself, or `None` if the table ends before it.
+pub fn written_origin(vorg: &mut [u8], at: usize, origin: GlyphOrigin) -> Option<GlyphOrigin>
+    ensures { IfSome result (λ read. read ≡ origin) }
+{
+    origin.write_at(vorg, at)?;
+    GlyphOrigin::read_at(vorg, at)
+}
+
+/// Three fields of `hhea`.
+#[derive(Clone, Copy, PartialEq, Eq)]
+pub struct LineMetrics {
+    pub ascender: FWord,
+    pub descender: FWord,
+    pub gap: FWord,
+}
+
+/// Encodes fields: the bytes of each.
+pub fn encode_metrics(metrics: LineMetrics) -> [u8; 6]
+    ensures { result ≡ metrics_bytes metrics }
+{
+    let [a, b] = metrics.ascender.to_be_bytes();
+    let [c, d] = metrics.descender.to_be_bytes();
+    let [e, f] = metrics.gap.to_be_bytes();
+    [a, b, c, d, e, f]
+}
+
+/// Decodes fields: the number of each, or `None` for under 6 bytes.
+pub fn decode_metrics(bytes: &[u8]) -> Option<LineMetrics>
+    ensures variant { IsSome result ↔ (6 ≤ length bytes.now) }
+    ensures ascender { IfSome result (λ metrics.
+        fword_number metrics.ascender ≡ signed_numeral 2 (take 2 bytes.now)) }
+    ensures descender { IfSome result (λ metrics.
+        fword_number metrics.descender ≡ signed_numeral 2 (take 2 (drop 2 bytes.now))) }
+    ensures gap { IfSome result (λ metrics.
+        fword_number metrics.gap ≡ signed_numeral 2 (take 2 (drop 4 bytes.now))) }
+{
+    Some(LineMetrics {
+        ascender: FWord::read_at(bytes, 0)?,
+        descender: FWord::read_at(bytes, 2)?,
+        gap: FWord::read_at(bytes, 4)?,
+    })
+}
+
+/// Encodes fields and decodes them: themselves.
+#[tactic(auto, using(font_types::proofs::Callers::records))]
+pub fn metrics_again(metrics: LineMetrics) -> Option<LineMetrics>
+    ensures { result ≡ Some metrics }
+{
+    decode_metrics(&encode_metrics(metrics))
 }
