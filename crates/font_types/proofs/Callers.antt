@@ -9,6 +9,7 @@ use Rattle.font_tags.proofs.{TagLaws.tag_calls, VersionLaws.compatible_calls}
 use Rattle.font_geom.proofs.{Bounds.bound_calls, Scaled.scaled_calls}
 use Rattle.font_types.proofs.SumCalls.{sum_calls_from, sum_calls_16, sum_calls_32, delta_rules}
 use Rattle.font_types.proofs.Parts.{part_calls, unit_calls, between_calls, lerp_calls}
+use Rattle.font_types.proofs.Ratios.{ratio_calls}
 use Rattle.font_types.proofs.Narrowed.{exact_narrow_calls, exact_sum_is_integral, negation_is_integral}
 use Rattle.font_types.proofs.{Searches.search_calls, StoredBytes.stored_calls, ShortProducts.short_product_calls}
 use Rattle.font_types.proofs.{ArrayNumbers.array_number_calls, Below.below_calls, Writes.write_calls}
@@ -63,8 +64,8 @@ pub ruleset texts = (tag_calls, compatible_calls, shortest_is)
 -- the rules by which functions of callers prove
 pub ruleset calls = (numbers, conversions, arrays, sums, bounds, parts, texts)
 
--- for the value of `a + (b - a) * t`, as one formula
-pub ruleset lerps = (lerp_calls)
+-- for the value of `a + (b - a) * t`, as one formula; of `(x - p) / (q - p)`; and of `mul_div` by such a quotient
+pub ruleset lerps = (lerp_calls, ratio_calls)
 
 -- for `IsIntegral` of the greater of two integers, of a negation, or of a sum with a constant or with halves
 pub ruleset integers = (integral_rules, negation_is_integral, calls_32)

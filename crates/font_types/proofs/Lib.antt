@@ -3,6 +3,7 @@ pub mod StoredBytes
 pub mod Searches
 pub mod ShortProducts
 pub mod Parts
+pub mod Ratios
 pub mod Narrowed
 pub mod ArrayNumbers
 pub mod Below

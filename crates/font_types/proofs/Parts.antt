@@ -1,6 +1,6 @@
 -- Products of `Fixed` by a part of a whole, a number from 0 to 1, numbers between two others, and products by a widened
 -- 2.14 factor.
-use Rattle.std.proofs.Common.{◌≡◌, ◌≢◌, ◌∙◌, sym, ap, refl, lit<, arith, ℕ, zero, suc, ◌+◌, ◌-◌, ℤ, pos, negsuc, ◌*◌}
+use Rattle.std.proofs.Common.{◌≡◌, ◌≢◌, ◌∙◌, sym, ap, refl, lit<, arith, ℕ, zero, suc, ℤ, pos, negsuc, ◌*◌}
 use Rattle.std.proofs.Common.{◌<◌, neg_ℤ, ◌+ℤ◌, ◌-ℤ◌, ◌*ℤ◌, ◌≤ℤ◌, ◌<ℤ◌, unsigned_abs, w16, w32, SFits}
 use Rattle.std.proofs.lemmas.Grind.{common_steps}
 use Rattle.std.proofs.{lemmas.Int.ints, Math.IntN.*ℤ_comm, Math.Nat.mul_assoc, lemmas.Bool.Decides.nat_tests}
@@ -91,9 +91,25 @@ widened_is_not_negative t from = omega (arith, ints, from)
 pub widened_is_at_most_one : (t : ℤ) → t ≤ℤ pos 16384 → (t *ℤ pos 4) ≤ℤ pos 65536
 widened_is_at_most_one t to = omega (arith, ints, to)
 
--- `mul_div` of a number that is not positive, by a part and its whole
-falling_share : (x a c r : ℤ) → IsMulDiv 32 x a c r → SFits w32 x → x ≤ℤ pos 0 → pos 0 ≤ℤ a → a ≤ℤ c → c ≢ pos 0
-    → (r ≤ℤ pos 0) × (x ≤ℤ r)
+-- `mul_div` by a part and its whole, of a number that is not negative, and of one that is not positive
+pub rising_share : (x a c r : ℤ) → IsMulDiv 32 x a c r → SFits w32 x → pos 0 ≤ℤ x → pos 0 ≤ℤ a → a ≤ℤ c → c ≢ pos 0
+    → (r ≡ near (x *ℤ a) (unsigned_abs c)) × (pos 0 ≤ℤ r) × (r ≤ℤ x)
+rising_share x a (pos zero) r given fits from_x from to some = absurd (some refl)
+rising_share x a (negsuc d) r given fits from_x from to some = absurd (omega (arith, ints, from, to))
+rising_share x a (pos (suc d)) r given fits from_x from to some =
+    let up = rises x a (suc d) from_x from to in
+    let share : ℤ = near (x *ℤ a) (suc d) in
+    let nearest = near_is (x *ℤ a) (suc d) (omega arith) in
+    let low : pos 0 ≤ℤ share = near_monotone (omega arith) (omega arith) (near_exact (pos 0) (suc d) (omega arith))
+    nearest
+    (omega (arith, ints, times_monotone (pos 0) (x *ℤ a) (suc d) up.0)) in
+    let high : share ≤ℤ x = near_monotone (omega arith) (omega arith) nearest (near_exact x (suc d) (omega arith))
+    (times_monotone (x *ℤ a) (x *ℤ pos (suc d)) (suc d) up.1) in
+    let is : r ≡ share = given.is ∙ fits_32 share (omega (arith, ints, fits, low, high)) in
+    (is, rw is low, rw is high)
+
+pub falling_share : (x a c r : ℤ) → IsMulDiv 32 x a c r → SFits w32 x → x ≤ℤ pos 0 → pos 0 ≤ℤ a → a ≤ℤ c → c ≢ pos 0
+    → (r ≡ near (x *ℤ a) (unsigned_abs c)) × (r ≤ℤ pos 0) × (x ≤ℤ r)
 falling_share x a (pos zero) r given fits to_x from to some = absurd (some refl)
 falling_share x a (negsuc d) r given fits to_x from to some = absurd (omega (arith, ints, from, to))
 falling_share x a (pos (suc d)) r given fits to_x from to some =
@@ -106,14 +122,14 @@ falling_share x a (pos (suc d)) r given fits to_x from to some =
     let low : x ≤ℤ share = near_monotone (omega arith) (omega arith) (near_exact x (suc d) (omega arith)) nearest
     (times_monotone (x *ℤ pos (suc d)) (x *ℤ a) (suc d) down.1) in
     let is : r ≡ share = given.is ∙ fits_32 share (omega (arith, ints, fits, low, high)) in
-    (rw is high, rw is low)
+    (is, rw is high, rw is low)
 
 module _ (x a c r : ℤ) (given : IsMulDiv 32 x a c r) (fits : SFits w32 x) where
   pub mul_div_is_not_positive : x ≤ℤ pos 0 → pos 0 ≤ℤ a → a ≤ℤ c → c ≢ pos 0 → r ≤ℤ pos 0
-  mul_div_is_not_positive to_x from to some = (falling_share x a c r given fits to_x from to some).0
+  mul_div_is_not_positive to_x from to some = (falling_share x a c r given fits to_x from to some).1
 
   pub mul_div_is_at_least : x ≤ℤ pos 0 → pos 0 ≤ℤ a → a ≤ℤ c → c ≢ pos 0 → x ≤ℤ r
-  mul_div_is_at_least to_x from to some = (falling_share x a c r given fits to_x from to some).1
+  mul_div_is_at_least to_x from to some = (falling_share x a c r given fits to_x from to some).2
 
 pub ruleset part_calls = (
   mul_div_is_not_positive,
