@@ -3,7 +3,7 @@ use Rattle.std.proofs.Common.{◌≡◌, ◌∙◌, ap, refl, lit<, lit≤, ℕ,
 use Rattle.std.proofs.Common.{◌<ℤ◌, arith, SFits, to_z, of_z}
 use Rattle.std.proofs.Math.Nat.{two-pow-succ, pow-le-pow_right}
 use Rattle.std.proofs.{lemmas.Bool.Decides.nat_tests, lemmas.Int.ints, lemmas.Int.to_z-of_z}
-use Rattle.std.specs.Int.{Width, w128}
+use Rattle.std.specs.Int.{Width, w16, w32, w128}
 use lib.Signed.{shr_z}
 use Rattle.font_decimal.specs.Near.{up}
 use Rattle.font_base.specs.Integers.{product-times}
@@ -81,3 +81,37 @@ pub half_up_is : (w : Width) (f : ℕ) (n : ℤ) → 2 ≤ f → SFits w n
 half_up_is w f n many fits = halves_up_code w (2 ^ (f - 1)) (2 ^ f) n (half_power f many).0 (half_power f many).1 fits
 
 pub ruleset half_up = (half_power_fits, half_up_is)
+
+-- ---- the average of two 16-bit numbers, rounded half up: it fits, in the form of the goals of code
+
+average_fits : (w : Width) (a b : ℤ) → SFits w a → SFits w b → SFits w (shr_z ((a +ℤ b) +ℤ pos 1) 2)
+average_fits w a b fits_a fits_b =
+    let low = shr_low ((a +ℤ b) +ℤ pos 1) 2 (lit< tt) in
+    let high = shr_high ((a +ℤ b) +ℤ pos 1) 2 (lit< tt) in
+    grind (arith, ints, low, high)
+
+pub average_fits_16 : (a b : ℤ) → SFits w16 a → SFits w16 b → SFits w16 (shr_z ((a +ℤ b) +ℤ pos 1) 2)
+average_fits_16 = average_fits w16
+
+average_code : (a b : ℤ) → SFits w16 a → SFits w16 b
+    → to_z w16 (of_z w16 (to_z w32 (of_z w32 (shr_z (to_z w32 (of_z w32
+    (to_z w32 (of_z w32 (to_z w32 (of_z w32 a) +ℤ to_z w32 (of_z w32 b))) +ℤ pos 1))) 2)))) ≡ up (a +ℤ b) 2
+average_code a b fits_a fits_b =
+    let wide_a : SFits w32 a = omega (arith, ints, fits_a) in
+    let wide_b : SFits w32 b = omega (arith, ints, fits_b) in
+    let sum : SFits w32 (a +ℤ b) = omega (arith, ints, fits_a, fits_b) in
+    let more : SFits w32 ((a +ℤ b) +ℤ pos 1) = omega (arith, ints, fits_a, fits_b) in
+    rw (
+      to_z-of_z w32 a wide_a,
+      to_z-of_z w32 b wide_b,
+      to_z-of_z w32 (a +ℤ b) sum,
+      to_z-of_z w32 ((a +ℤ b) +ℤ pos 1) more,
+      to_z-of_z w32 (shr_z ((a +ℤ b) +ℤ pos 1) 2) (shr_fits w32 ((a +ℤ b) +ℤ pos 1) 2 more),
+      to_z-of_z w16 (shr_z ((a +ℤ b) +ℤ pos 1) 2) (average_fits w16 a b fits_a fits_b),
+    )
+    (shr_up (a +ℤ b) 1 2 (lit< tt) refl)
+
+pub average_is : (a b x y : ℤ) → SFits w16 x → SFits w16 y → a ≡ x → b ≡ y
+    → to_z w16 (of_z w16 (to_z w32 (of_z w32 (shr_z (to_z w32 (of_z w32
+    (to_z w32 (of_z w32 (to_z w32 (of_z w32 a) +ℤ to_z w32 (of_z w32 b))) +ℤ pos 1))) 2)))) ≡ up (x +ℤ y) 2
+average_is a b x y fits_x fits_y is_x is_y = rw (is_x, is_y) (average_code x y fits_x fits_y)

@@ -2,6 +2,7 @@
 -- lemmas for answers.
 use Rattle.font_base.proofs.ScalarCalls.{scalar_calls}
 use Rattle.font_fixed.proofs.{Calls.calls_16, Calls.calls_32, Calls.calls_64, Shifts.shr_low, Shifts.shr_high}
+use Rattle.font_fixed.proofs.Shifts.{average_fits_16, average_is}
 use Rattle.font_fixed.proofs.{Shifts.shr_fits, Shifts.shr_up, FixedCalls.fixed_calls, Integral.integral_calls}
 use Rattle.font_fixed.proofs.{Integral.integral_rules, NarrowCalls.narrow_calls, NarrowCalls.quarter_neg_one}
 use Rattle.font_fixed.proofs.Orders.{order_calls}
@@ -73,8 +74,9 @@ pub ruleset integers = (integral_rules, negation_is_integral, calls_32)
 -- for a narrowed number that fits
 pub ruleset narrowings = (exact_narrow_calls)
 
--- for `>>`, beside std's `wraps`: the floor of a quotient by a power of two, and the quotient rounded half up
-pub ruleset shifts = (shr_low, shr_high, shr_fits, shr_up)
+-- for `>>`, beside std's `wraps`: the floor of a quotient by a power of two, the quotient rounded half up, and the
+-- average of two 16-bit numbers
+pub ruleset shifts = (shr_low, shr_high, shr_fits, shr_up, average_fits_16, average_is)
 
 -- for the order of two numbers that are scaled, narrowed or rounded
 pub ruleset orders = (order_calls)
