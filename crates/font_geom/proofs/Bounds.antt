@@ -1,14 +1,18 @@
 -- The distance of a point from its exact image, if all entries and coordinates fit in 32 bits; and lemmas for callers
 -- on matrices whose entries are small enough for that.
 use Rattle.std.proofs.Common.{◌≡◌, ◌∙◌, ap, ℕ, ◌+◌, ◌*◌, ◌^◌, ◌<◌, ◌≤◌, ℤ, pos, ◌+ℤ◌, ◌-ℤ◌, ◌*ℤ◌, ◌≤ℤ◌, unsigned_abs}
-use Rattle.std.proofs.Common.{lit<, arith, ◌/◌, ◌&&◌, IsTrue, nat_lt, mul-le-mul_right, le_trans, SFits, w32}
+use Rattle.std.proofs.Common.{lit<, arith, ◌/◌, ◌&&◌, IsTrue, nat_lt, mul-le-mul_right, le_trans, SFits, w32, sym}
 use Rattle.std.proofs.Math.IntN.{*ℤ_comm, +ℤ_comm, +ℤ_assoc}
 use Rattle.std.proofs.{lemmas.Int.unsigned_abs-mul, lemmas.Int.ints, lemmas.Bool.Decides.nat_tests}
 use Rattle.font_base.specs.Wrap.Laws.{wrap-fits, wrap-add_left, wrap-add_right}
 use Rattle.font_base.specs.{Integers.sum-times, Integers.product-times, Wrap.FitsBits}
 use Rattle.font_decimal.proofs.Near.{near_is}
 use Rattle.font_fixed.proofs.{Calls.add_zero, Sums.sums}
+use Rattle.font_fixed.specs.{Operations.IsProduct, Operations.WrapsTo, Fixed.Fixed, Fixed.fixed_bits}
+use Rattle.font_geom.proofs.FixedCalls.{product_value, image_value}
 use Rattle.font_geom.specs.Matrix.{linear_form, affine_form, image_of, matrix_product, FitsEach}
+use Rattle.font_geom.specs.Matrix.{IsProductOf, IsTransformed}
+use Rattle.font_geom.specs.FixedMatrix.{matrix_bits, point_bits}
 use Rattle.font_geom.specs.FixedMatrix.{rounded_image, rounded_matrix_product, rounded_product, wrapped_product}
 use Rattle.font_geom.specs.FixedMatrix.{wrapped_sum, exact_coordinate, IsWithin, exact_row, IsCloseImage, FitsComposed}
 use Rattle.font_geom.specs.FixedMatrix.{FitsInTurn, IsCloseComposed, IsCloseInTurn, FitsPoint, IsBounded}
@@ -213,6 +217,36 @@ pub fits_product : (m d m' d' : ℕ) (a b : Matrix ℤ) → IsBounded m d a → 
 fits_product m d m' d' a b s t test =
     let room = both_below _ _ _ test in
     fits_matrix _ _ _ room.0 room.1 (product_bounded m d m' d' a b s t)
+
+-- the result of `a * b`: the exact sums, bounded
+pub bounded_product : {a b ab : Matrix Fixed} (m d m' d' : ℕ)
+    → IsProductOf (λ x y r. IsProduct 32 16 (fixed_bits x) (fixed_bits y) (fixed_bits r))
+    (λ x y r. WrapsTo 32 (fixed_bits x +ℤ fixed_bits y) (fixed_bits r)) a b ab
+    → IsBounded m d (matrix_bits a) → IsBounded m' d' (matrix_bits b)
+    → IsTrue (nat_lt (form_bound m m') (2 ^ 31) && nat_lt (form_bound m d' + d) (2 ^ 31))
+    → (matrix_bits ab ≡ rounded_matrix_product (matrix_bits a) (matrix_bits b))
+    × IsBounded (form_bound m m') (form_bound m d' + d) (matrix_bits ab)
+bounded_product {a} {b} m d m' d' given s t test =
+    let is = product_value given
+    ∙ sym (product_unwrapped (matrix_bits a) (matrix_bits b) (fits_product m d m' d' _ _ s t test)) in
+    (is, rw is (product_bounded m d m' d' (matrix_bits a) (matrix_bits b) s t))
+
+-- the result of `a * p`: the exact sums, bounded
+bound_below : (k n : ℕ) → IsTrue (nat_lt k n) → k < n
+bound_below k n test = grind (arith, nat_tests)
+
+pub bounded_image : {a : Matrix Fixed} {p moved : Point Fixed} (m d n : ℕ)
+    → IsTransformed (λ x y r. IsProduct 32 16 (fixed_bits x) (fixed_bits y) (fixed_bits r))
+    (λ x y r. WrapsTo 32 (fixed_bits x +ℤ fixed_bits y) (fixed_bits r)) a p.x p.y moved.x moved.y
+    → IsBounded m d (matrix_bits a) → IsBoundedPoint n (point_bits p)
+    → IsTrue (nat_lt (form_bound m n + d) (2 ^ 31))
+    → (point_bits moved ≡ rounded_image (matrix_bits a) (point_bits p))
+    × IsBoundedPoint (form_bound m n + d) (point_bits moved)
+bounded_image {a} {p} m d n given s q test =
+    let small = image_bounded m d n (matrix_bits a) (point_bits p) s q in
+    let is = image_value given
+    ∙ sym (image_unwrapped (matrix_bits a) (point_bits p) (fits_point _ _ (bound_below _ _ test) small)) in
+    (is, rw is small)
 
 pub fits_composed : (m d m' d' n : ℕ) (a b : Matrix ℤ) (p : Point ℤ) → IsBounded m d a → IsBounded m' d' b
     → IsBoundedPoint n p

@@ -34,6 +34,7 @@ pub use Rattle.font_tags.proofs.TagLaws.{validated_good, good_is_utf8}
 pub use Rattle.font_tags.proofs.TagLaws
 pub use Rattle.font_geom.proofs.FixedCalls.{product_value, image_value}
 pub use Rattle.font_geom.proofs.Bounds.{fits_composed, fits_in_turn, fits_product, product_bounded}
+pub use Rattle.font_geom.proofs.Bounds.{bounded_product, bounded_image}
 pub use Rattle.font_geom.proofs.RingCalls
 pub use Rattle.font_geom.proofs.RingMatrices
 pub use Rattle.font_types.proofs.SumCalls.{running_total, running_total_from}
