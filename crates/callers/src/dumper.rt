@@ -1,15 +1,18 @@
-//! A dumper of font values: columns, raw values in hexadecimal, and JSON.
+//! A dumper of font values: columns, lines in a buffer, and JSON.
 
 ghost use Rattle.std.specs.Prelude.{◌≡◌, ◌≤◌, ◌<◌, Some, None, Ok, IfOk, IfErr, MatchResult};
+ghost use Rattle.std.specs.Prelude.{◌+◌, ◌++◌, length, take, drop, FitsSigned};
+ghost use Rattle.std.specs.Int.{w32};
 ghost use Rattle.std.specs.List.{flat_map};
 ghost use lib.Chars.{codes};
 ghost use Rattle.serde_json.specs.{Data.object, Data.member, Data.no_members, Find.get, View.view};
 ghost use Rattle.font_types.specs.Tag.{tag_bytes, IsGood};
 ghost use Rattle.font_types.specs.{Fixed.fixed_text, Padding.padded_text};
+ghost use Rattle.font_types.specs.{Fixed.Fixed, Fixed.fixed_bits, Operations.ReadsBits};
 ghost use Rattle.callers.specs.declared.dumper.Axis.{Axis};
 ghost use Rattle.callers.specs.Dumper.{column, IsAxis, axis_form, ConvertsMember, ConvertsAxis};
 
-use font_types::{Fixed, JsonFault, JsonScalar, NameId, Pad, Tag};
+use font_types::{DecimalFault, Fixed, JsonFault, JsonScalar, NameId, Pad, Tag};
 use serde_json::{Value, json};
 use std::alloc::{AllocError, Global};
 
@@ -31,6 +34,51 @@ pub fn row(numbers: &[Fixed], width: usize, alloc: Global) -> Result<Vec<u8>, Al
         row.extend_from_slice(&cell[..len])?;
     }
     Ok(row)
+}
+
+// ---- lines in a buffer
+
+/// Writes a part of a line into a buffer, at an offset: the offset after it.
+pub fn put(out: &mut [u8], at: usize, part: &[u8]) -> usize
+    requires { at + length part.now ≤ length out.old }
+    ensures offset { result ≡ at + length part.now }
+    ensures len { length out.new ≡ length out.old }
+    ensures bytes { take result out.new ≡ take at out.old ++ part.now }
+{
+    let end = at + part.len();
+    out[at..end].copy_from_slice(part);
+    end
+}
+
+/// Writes a line, part by part: a tag, `=` and a number; the length.
+pub fn labeled(out: &mut [u8; 32], tag: Tag, value: Fixed) -> usize
+    ensures bytes { take result out.new ≡ tag_bytes tag ++ codes "=" ++ fixed_text value }
+    ensures room { result ≤ 32 }
+{
+    let end = put(out, 0, tag.as_bytes());
+    let end = put(out, end, b"=");
+    put(out, end, value.to_decimal().as_str().as_bytes())
+}
+
+/// Reads a line: the number after a label of five bytes, which is the one that was printed there.
+pub fn value_of(line: &[u8]) -> Result<Fixed, DecimalFault>
+    ensures reads { IfOk result (λ x. ReadsBits 32 16 (drop 5 line.now) (fixed_bits x)) }
+    ensures printed { (x : Fixed) → FitsSigned w32 (fixed_bits x)
+        → drop 5 line.now ≡ fixed_text x → result ≡ Ok x }
+{
+    let text = if line.len() < 5 { &[] } else { &line[5..] };
+    Fixed::from_decimal_bytes(text)
+}
+
+/// Writes a line and reads it back, which gives the value.
+///
+/// The answer in `proofs/dumper/line_round_trip` says where the label ends.
+pub fn line_round_trip(tag: Tag, value: Fixed) -> Result<Fixed, DecimalFault>
+    ensures { result ≡ Ok value }
+{
+    let mut out = [0; 32];
+    let end = labeled(&mut out, tag, value);
+    value_of(&out[..end])
 }
 
 // ---- JSON

@@ -5,7 +5,7 @@
 //! - `reader`: a table's bytes, header and records, as of `VORG`.
 //! - `scaler`: points through two matrices, and numbers on a grid.
 //! - `linter`: tags and the records of a table directory.
-//! - `dumper`: numbers in columns, and JSON.
+//! - `dumper`: numbers in columns and lines, and JSON.
 #![tactic(auto, using(font_types::proofs::Callers::calls))]
 
 pub mod dumper;

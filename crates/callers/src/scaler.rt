@@ -4,12 +4,14 @@ ghost use Rattle.std.specs.Prelude.{◌≡◌, ◌*◌, ◌^◌, pos, ◌+ℤ◌
 ghost use Rattle.font_types.specs.FixedMatrix.{matrix_bits, point_bits, exact_image, IsWithin};
 ghost use Rattle.font_types.specs.FixedMatrix.{FitsComposed, IsCloseComposed, IsBounded};
 ghost use Rattle.font_types.specs.FixedMatrix.{FitsInTurn, IsCloseInTurn, IsBoundedPoint};
+ghost use Rattle.font_types.specs.FixedMatrix.{rounded_matrix_product};
 ghost use Rattle.font_types.specs.Fixed;
 ghost use Rattle.font_types.specs.{Fixed.fixed_bits, F26Dot6.f26dot6_bits, FWord.fword_number};
+ghost use Rattle.font_types.specs.{F2Dot14.f2dot14_bits};
 ghost use Rattle.font_types.specs.{Near.near, Near.up, Wrap.FitsBits, Wrap.wrap};
-ghost use Rattle.font_types.specs.Operations.{IsIntegral, IsMulDiv, rounded_mul_div};
+ghost use Rattle.font_types.specs.Operations.{IsIntegral, IsQuotient, IsMulDiv, rounded_mul_div};
 
-use font_types::{F26Dot6, FWord, Fixed, Matrix, Point, laws};
+use font_types::{F2Dot14, F26Dot6, FWord, Fixed, Matrix, Point, laws};
 
 // Transforms a point by `place` and then by `scale`, with one matrix composed of both.
 //
@@ -54,6 +56,21 @@ pub fn scale_point(scale: Matrix<Fixed>, place: Matrix<Fixed>, point: Point<Fixe
     composed(scale, place, point)
 }
 
+/// Composes three matrices of bounded entries: the exact sums of the rounded products, bounded too.
+///
+/// The lemma `bounded_product` has both, once for each `*`, in the answers in
+/// `proofs/scaler/composed_of_three`.
+pub fn composed_of_three(a: Matrix<Fixed>, b: Matrix<Fixed>, c: Matrix<Fixed>) -> Matrix<Fixed>
+    requires a { IsBounded (2 ^ 16) (2 ^ 24) (matrix_bits a) }
+    requires b { IsBounded (2 ^ 16) (2 ^ 24) (matrix_bits b) }
+    requires c { IsBounded (2 ^ 16) (2 ^ 24) (matrix_bits c) }
+    ensures value { matrix_bits result ≡ rounded_matrix_product
+        (rounded_matrix_product (matrix_bits a) (matrix_bits b)) (matrix_bits c) }
+    ensures bound { IsBounded (2 ^ 19) (2 ^ 27) (matrix_bits result) }
+{
+    a * b * c
+}
+
 /// Scales font units to 26.6: the width of a stem, rounded once, half up.
 ///
 /// The product is exact and bounded by `calls`, and narrowed by `narrowings`.
@@ -87,6 +104,30 @@ pub fn halfway(a: i16, b: i16) -> i16
     ensures high { (a +ℤ b) <ℤ ((result +ℤ result) +ℤ pos 2) }
 {
     ((i32::from(a) + i32::from(b)) >> 1) as i16
+}
+
+/// Rounds by a shift, half up: the average of two coordinates on an axis.
+#[tactic(auto, using(std::proofs::lemmas::Int::wraps, font_types::proofs::Callers::shifts))]
+pub fn average(a: F2Dot14, b: F2Dot14) -> F2Dot14
+    ensures { f2dot14_bits result ≡ up (f2dot14_bits a +ℤ f2dot14_bits b) 2 }
+{
+    let sum = i32::from(a.to_bits()) + i32::from(b.to_bits());
+    F2Dot14::from_bits(((sum + 1) >> 1) as i16)
+}
+
+/// Divides two differences: the scalar of a region, from the start of its axis to the peak.
+///
+/// The ruleset `lerps` also has quotients of differences, and `mul_div` of them.
+#[tactic(auto, using(font_types::proofs::Callers::calls, font_types::proofs::Callers::lerps))]
+pub fn rising(start: F2Dot14, peak: F2Dot14, at: F2Dot14) -> Fixed
+    requires { (f2dot14_bits start ≤ℤ f2dot14_bits at) × (f2dot14_bits at ≤ℤ f2dot14_bits peak)
+        × (f2dot14_bits start <ℤ f2dot14_bits peak) }
+    ensures value { IsQuotient 32 16 (f2dot14_bits at -ℤ f2dot14_bits start)
+        (f2dot14_bits peak -ℤ f2dot14_bits start) (fixed_bits result) }
+    ensures low { pos 0 ≤ℤ fixed_bits result }
+    ensures high { fixed_bits result ≤ℤ fixed_bits Fixed.ONE }
+{
+    (at.to_fixed() - start.to_fixed()) / (peak.to_fixed() - start.to_fixed())
 }
 
 /// Scales between two values by the formula: at any `t` of the way from one master to another.
