@@ -64,6 +64,7 @@ impl<'a> ItemVariationStore<'a> {
     pub fn region_count(&self) -> u16
         ensures value { 4 ≤ length (regions_of self.now.bytes.now)
             → result ≡ region_count (regions_of self.now.bytes.now) }
+        ensures short { length (regions_of self.now.bytes.now) < 4 → result ≡ 0 }
         ensures enough { (region : ℕ)
             → HasRegion (regions_of self.now.bytes.now) region → region < result }
     {

@@ -82,6 +82,7 @@ impl<'a> ItemVariationStore<'a> {
     /// ```text
     /// ensures value { 4 ≤ length (regions_of self.now.bytes.now)
     ///     → result ≡ region_count (regions_of self.now.bytes.now) }
+    /// ensures short { length (regions_of self.now.bytes.now) < 4 → result ≡ 0 }
     /// ensures enough { (region : ℕ)
     ///     → HasRegion (regions_of self.now.bytes.now) region → region < result }
     /// ```
