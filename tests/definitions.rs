@@ -6,6 +6,7 @@ mod exact;
 
 use exact::{fits, near, up, wrap};
 use font_types_proved::*;
+use std::cell::RefCell;
 use std::fmt::Debug;
 use std::ops::*;
 
@@ -394,12 +395,18 @@ fn flags_of_tags_ids_and_versions() {
 #[derive(Clone, Copy, PartialEq, Eq, Debug, Default)]
 struct Mark(u64);
 
+thread_local! {
+    /// The first operand of each operator that was called, in order.
+    static CALLS: RefCell<Vec<Mark>> = const { RefCell::new(Vec::new()) };
+}
+
 macro_rules! operators {
     ($($number:literal $Trait:ident $method:ident $Assign:ident $assign:ident;)*) => {$(
         impl $Trait for Mark {
             type Output = Self;
 
             fn $method(self, other: Self) -> Self {
+                CALLS.with_borrow_mut(|calls| calls.push(self));
                 let mixed = self.0.wrapping_mul(0x9E37_79B9_7F4A_7C15).rotate_left(29) ^ $number;
                 Self(mixed.wrapping_mul(0xBF58_476D_1CE4_E5B9) ^ other.0.rotate_left(17))
             }
@@ -424,6 +431,7 @@ impl Neg for Mark {
     type Output = Self;
 
     fn neg(self) -> Self {
+        CALLS.with_borrow_mut(|calls| calls.push(self));
         Self(!self.0)
     }
 }
@@ -471,6 +479,37 @@ fn points_and_boxes() {
         let found = [found.x_min, found.y_min, found.x_max, found.y_max];
         assert_eq!(found.map(f64::to_bits), swapped.map(f64::to_bits), "{sides:?}");
         assert_eq!(of.is_normalized(), sides == swapped, "{sides:?}");
+    }
+}
+
+// No clause has the order of the calls.
+#[test]
+fn points_call_operators_of_x_first() {
+    fn assigned(mut p: Point<Mark>, assign: impl Fn(&mut Point<Mark>)) -> Point<Mark> {
+        assign(&mut p);
+        p
+    }
+    type Call = fn(Point<Mark>, Point<Mark>) -> Point<Mark>;
+    let calls: [Call; 13] = [
+        |p, q| p + q,
+        |p, q| p - q,
+        |p, q| p * q,
+        |p, q| p / q,
+        |p, q| p * q.x,
+        |p, q| p / q.x,
+        |p, _| -p,
+        |p, q| assigned(p, |p| *p += q),
+        |p, q| assigned(p, |p| *p -= q),
+        |p, q| assigned(p, |p| *p *= q),
+        |p, q| assigned(p, |p| *p /= q),
+        |p, q| assigned(p, |p| *p *= q.x),
+        |p, q| assigned(p, |p| *p /= q.x),
+    ];
+    let [a, b, x, y, ..] = ELEMENTS;
+    for (n, call) in calls.iter().enumerate() {
+        CALLS.take();
+        call(Point::new(a, b), Point::new(x, y));
+        assert_eq!(CALLS.take(), [a, b], "call {n}");
     }
 }
 
