@@ -64,6 +64,11 @@ def bounds() -> Iterator[tuple[str, BoolRef]]:
     x, y = z3.Ints("x y")
     m, by_b = dict(zip(ENTRIES, a)), list[z3.ArithRef]()
     size = lambda n: z3.If(n < 0, -n, n)
+    # A product of numbers that are not negative is not negative.
+    product_of = lambda n, k: z3.Implies(z3.And(n >= 0, k >= 0), n * k >= 0)
+    yield "PRODUCT", product_of(x, y)
+    # By PRODUCT, if |e| is at most 2^16, then |e n| is at most 2^16 |n|.
+    share = lambda e, n: z3.And([product_of(2**16 + f, k) for f in (e, -e) for k in (n, -n)])
     of_b = dict(zip(ENTRIES, b))
     for s, t, plus in ROWS.values():
         by_b.append(of_b[s] * x + of_b[t] * y + of_b[plus] * 2**16)
@@ -82,6 +87,14 @@ def bounds() -> Iterator[tuple[str, BoolRef]]:
             for q, it in reversed(p.known.items()):
                 if any(q.eq(of) for of in subterms([error, *known])):
                     known += [it, *([p.fit[q]] if q in p.fit else [])]
+            # What is held between has an error, which counts as often as its factor says.
+            held = list(p.fit)
+            if law is composed:
+                known.append(share(held[i] * 2**16 - u * of_b["xx"] - v * of_b["yx"], x))
+                known.append(share(held[2 + i] * 2**16 - u * of_b["xy"] - v * of_b["yy"], y))
+            if law is in_turn:
+                known.append(share(held[0] * 2**16 - by_b[0], u))
+                known.append(share(held[1] * 2**16 - by_b[1], v))
             yield f"{name} {'xy'[i]}", z3.Implies(
                 z3.And(known), z3.And(error <= bound, -error <= bound))
 
