@@ -22,9 +22,10 @@ if TYPE_CHECKING:
 LIMIT, QUICK = 500_000_000, 1_000_000
 # The command of another solver, or nothing, and how often it gave each answer.
 SECOND, ANSWERS = list[str](), Counter[str]()
-# For the other solver: that a term differs from what Z3 made of it, of bits and of integers, and of
-# how many terms it is asked at once.
+# For the other solver: terms with what Z3 makes of each; that a term of simple parts differs from
+# it, of bits and of integers; and of how many terms it is asked at once.
 SIMPLIFY, TERMS = z3.simplify, 16
+SIMPLE = dict[int, tuple[Any, Any]]()
 MADE = (dict[tuple[int, int], BoolRef](), dict[tuple[int, int], BoolRef]())
 
 
@@ -48,12 +49,27 @@ def ask(conditions: Iterable[BoolRef]) -> None:
 
 
 def simplify(term: Any) -> Any:
-    """Simplifies, and keeps what was done, which takes the place of `z3.simplify`."""
+    """Simplifies, and keeps what was done, which takes the place of `z3.simplify`. A term is equal
+    to what was made of it if each of its parts is, and the term of the simple parts is."""
     found = SIMPLIFY(term)
-    if not found.eq(term):
-        is_of_bits = any(map(z3.is_bv, subterms([term])))
-        MADE[is_of_bits].setdefault((term.get_id(), found.get_id()), term != found)
+    ahead = [term]
+    while ahead:
+        it = ahead[-1]
+        new = [part for part in it.children() if part.get_id() not in SIMPLE]
+        ahead += new
+        if not new:
+            ahead.pop()
+            keep(it, found if it.eq(term) else SIMPLIFY(it))
     return found
+
+
+def keep(term: Any, found: Any) -> None:
+    """Keeps what Z3 made of a term, of which the parts are kept."""
+    of_parts = z3.substitute(term, *(SIMPLE[it.get_id()] for it in term.children()))
+    SIMPLE.setdefault(term.get_id(), (term, found))
+    if not found.eq(of_parts):
+        is_of_bits = any(map(z3.is_bv, subterms([of_parts])))
+        MADE[is_of_bits].setdefault((of_parts.get_id(), found.get_id()), of_parts != found)
 
 
 def ask_simplified() -> None:
@@ -63,6 +79,7 @@ def ask_simplified() -> None:
         for start in range(0, len(terms), TERMS):
             ask([z3.Or(terms[start : start + TERMS])])
         made.clear()
+    SIMPLE.clear()
 
 
 def undecided(answers: Counter[str] = ANSWERS) -> str:
