@@ -224,6 +224,10 @@ class Proof:
         chance = random.Random(self.case.name)
         for _ in range(3 if self.arithmetic.nodes else 0):
             given = chosen(self.case, chance)
+            for name, of in self.case.parameters:
+                it = given[name]
+                if isinstance(it, bytes) and of in ELEMENTS:
+                    given[f"{name}_length"] = len(it) // ELEMENTS[of][0]
             known = ((it, given.get(name)) for name, it in self.given.variables.items())
             values = [(it, constant(n, it.size())) for it, n in known if isinstance(n, int)]
             fact = self.arithmetic.contradicted(values)
