@@ -20,8 +20,9 @@ from trees import Aliases, Bound, Tree, Trees, form, is_type, joined, owners, pa
 sys.path.append(str(pathlib.Path(__file__).resolve().parents[1] / "erase"))
 from eraser import DERIVED
 
-# An integer in the name of an impl of Rattle, which has the sign that its types lack.
-INTEGER = r"(?:::|[a-z])([UI](?:8|16|32|64|128|size))(?![a-z0-9])"
+# An integer in the name of an impl of Rattle, which has the sign that its types lack; but no
+# `FixedI16`, which is a type.
+INTEGER = r"(?:::|[a-z])(?<!Fixed)([UI](?:8|16|32|64|128|size))(?![a-z0-9])"
 
 # What Rattle alone may call, for its contract: by a shared reference, so that it changes nothing.
 IDLE = [f"font_base::raw::{it}BeByteArray::as_slice" for it in ("", "ArrayU8")]
