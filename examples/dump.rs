@@ -77,18 +77,15 @@ fn value(out: &mut impl Write, what: &str, value: Option<impl fmt::Display>) -> 
 /// Writes the names for Windows, which are UTF-16.
 fn names(font: &Font<'_>, out: &mut impl Write) -> fmt::Result {
     let records = font.table(b"name").and_then(|name| {
-        let mut rest = name.get(2..)?;
-        let (count, storage) = (u16::take_from(&mut rest)?, u16::take_from(&mut rest)?);
-        let records = ScalarArray::<NameRecord>::take_from(&mut rest, count.into())?;
-        Some((records, name.get(storage.into()..)?))
+        let records = ScalarArray::<NameRecord>::read_at(name, 6, u16::read_at(name, 2)?.into())?;
+        Some((records, name.get(u16::read_at(name, 4)?.into()..)?))
     });
     let Some((records, storage)) = records else {
         return Ok(());
     };
     for record in records.iter().filter(|record| record.platform == 3) {
-        let units = storage.get(record.offset.into()..).and_then(|mut rest| {
-            ScalarArray::<u16>::take_from(&mut rest, usize::from(record.length / 2))
-        });
+        let (start, len) = (record.offset.into(), usize::from(record.length / 2));
+        let units = ScalarArray::<u16>::read_at(storage, start, len);
         write!(out, "{}: ", record.name)?;
         for unit in char::decode_utf16(units.iter().flat_map(|units| units.iter())) {
             out.write_char(unit.unwrap_or(char::REPLACEMENT_CHARACTER))?;

@@ -109,7 +109,7 @@ mod methods;
 mod record;
 mod traits;
 
-/// As in the guide, by `take_from`:
+/// As in the guide, by `read_at`:
 ///
 /// ```compile_fail,E0080
 /// # use font_types_proved::{FixedSize, Scalar, ScalarArray};
@@ -120,7 +120,7 @@ mod traits;
 /// #     fn from_raw(raw: [u8; 1]) -> Self { Self(i8::from_be_bytes(raw)) }
 /// #     fn to_raw(self) -> [u8; 1] { self.0.to_be_bytes() }
 /// # }
-/// assert!(ScalarArray::<Sign>::take_from(&mut &[0; 4][..], 1).is_some());
+/// assert!(ScalarArray::<Sign>::read_at(&[0; 4], 2, 1).is_some());
 /// ```
 ///
 /// And as a field of a record:

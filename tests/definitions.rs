@@ -289,10 +289,10 @@ fn caller_defined_scalar() {
     assert_stored(Record(*b"abcde"), b"abcde");
     // Only an empty array has elements of zero bytes.
     assert!(ScalarArray::<Record<0>>::new(&[1]).is_none());
-    let mut rest = &[1, 2][..];
-    let taken = [0, 9].map(|count| ScalarArray::<Record<0>>::take_from(&mut rest, count));
-    assert_eq!(taken.map(|array| array.map(|array| array.len())), [Some(0); 2]);
-    assert_eq!(rest, [1, 2]);
+    let read = |offset, count| {
+        ScalarArray::<Record<0>>::read_at(&[1, 2], offset, count).map(|array| array.len())
+    };
+    assert_eq!([read(1, 0), read(2, 9), read(3, 0)], [Some(0), Some(0), None]);
 }
 
 /// An array of 70,000 even numbers, against a vector of std.
@@ -336,13 +336,16 @@ fn arrays() {
         let part = array.slice(start..end).map(|part| part.iter().collect::<Vec<_>>());
         assert_eq!(part.as_deref(), numbers.get(start..end), "{start} to {end}");
     }
-    for (offset, count, len) in
-        [(1, 69_999, Some(69_999)), (280_000, 0, Some(0)), (1, 70_000, None), (1, usize::MAX, None)]
-    {
-        let mut rest = &bytes[offset..];
-        let found = ScalarArray::<u32>::take_from(&mut rest, count);
+    for (offset, count, len) in [
+        (1, 69_999, Some(69_999)),
+        (280_000, 0, Some(0)),
+        (1, 70_000, None),
+        (280_001, 0, None),
+        (1, usize::MAX, None),
+        (usize::MAX, 1, None),
+    ] {
+        let found = ScalarArray::<u32>::read_at(&bytes, offset, count);
         assert_eq!(found.map(|array| array.len()), len, "{count} at {offset}");
-        assert_eq!(rest, &bytes[offset + 4 * len.unwrap_or(0)..], "{count} at {offset}");
         let right =
             found.and_then(|array| u32::read_at(&bytes, offset).filter(|_| !array.is_empty()));
         assert_eq!(found.and_then(|array| array.get(0)), right, "{count} at {offset}");

@@ -153,7 +153,7 @@ fn records_of_a_size_in_the_table() {
     let instances = instances.of(&bytes).unwrap();
     assert_eq!((instances.len(), instances.remainder().len()), (3, 0));
     for (n, instance) in instances.enumerate() {
-        let at = ScalarArray::<Fixed>::take_from(&mut &instance[4..], axis_count).unwrap();
+        let at = ScalarArray::<Fixed>::read_at(instance, 4, axis_count).unwrap();
         assert_eq!(at.get(0), Some(Fixed::from_i32(100 + n as i32)));
         let name = (instance_size >= 6 + 4 * axis_count).then(|| NameId::read_at(instance, 12));
         assert_eq!(name, Some(Some(NameId::new(0x200 + n as u16))));
@@ -181,8 +181,7 @@ fn arrays_of_arrays() {
         let read = <[u16; 2]>::read(&bytes[..len]);
         assert_eq!(read, (len == 4).then_some([1, 2]), "{len} bytes");
     }
-    let triples = ScalarArray::<[u16; 3]>::take_from(&mut &bytes[2..], 1).unwrap();
-    assert_eq!(triples.first(), Some([2, 3, 4]));
+    assert_eq!(ScalarArray::<[u16; 3]>::read_at(&bytes, 2, 1).unwrap().first(), Some([2, 3, 4]));
     assert_eq!(ScalarArray::<[u16; 0]>::new(&[]).unwrap().len(), 0);
     assert!(ScalarArray::<[u16; 0]>::new(&[1]).is_none());
     // Of elements of no bytes.

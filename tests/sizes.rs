@@ -25,19 +25,19 @@ where
         assert!(BigEndian::<T>::read_at(&bytes, offset).is_none());
         assert_eq!(value.write_at(&mut bytes, offset), None);
         assert_eq!(BigEndian::from(value).write_at(&mut bytes, offset), None);
+        assert!(ScalarArray::<T>::read_at(&bytes, offset, 0).is_none());
+        assert!(ScalarArray::<T>::read_at(&bytes, offset, 1).is_none());
     }
     let whole = bytes[..4 * size.min(4)].to_vec();
     let array = ScalarArray::<T>::new(&whole).unwrap_or_default();
     for count in wrapping(size).chain([usize::MAX, usize::MAX - 1]) {
         for offset in (0..17).chain([0_usize.wrapping_sub(count.wrapping_mul(size))]) {
+            assert!(ScalarArray::<T>::read_at(&bytes, offset, count).is_none());
             assert!(ByteRecords { offset, count, size }.of(&bytes).is_none());
             assert!(ByteRecords { offset, count: size, size: count }.of(&bytes).is_none());
         }
-        for offset in 0..=16 {
-            let mut rest = &bytes[offset..];
-            assert!(ScalarArray::<T>::take_from(&mut rest, count).is_none());
-            assert_eq!(rest.len(), 16 - offset);
-        }
+        let mut rest = &bytes[..];
+        assert!(ScalarArray::<T>::take_from(&mut rest, count).is_none() && rest.len() == 16);
         assert_eq!((array.get(count), array.slice(0..count)), (None, None));
         assert_eq!((array.slice(count..count), array.slice(count..usize::MAX)), (None, None));
     }

@@ -39,8 +39,8 @@ pub struct Font<'a> {
 
 impl<'a> Font<'a> {
     pub fn new(data: &'a [u8]) -> Option<Self> {
-        let (header, mut rest) = TableDataRef::<FontHeader>::new(data)?.split();
-        let tables = ScalarArray::take_from(&mut rest, header.table_count.into())?;
+        let (header, rest) = TableDataRef::<FontHeader>::new(data)?.split();
+        let tables = ScalarArray::read_at(rest, 0, header.table_count.into())?;
         Some(Self { data, tables })
     }
 
@@ -58,11 +58,11 @@ impl<'a> Font<'a> {
 
     /// The metrics in `hmtx`, if it has also a bearing, which is not read, of each glyph past them.
     pub fn long_metrics(&self) -> Option<ScalarArray<'a, LongMetric>> {
-        let mut hmtx = self.table(b"hmtx")?;
+        let hmtx = self.table(b"hmtx")?;
         let count = u16::read_at(self.table(b"hhea")?, 34)?;
-        let metrics = ScalarArray::<LongMetric>::take_from(&mut hmtx, count.into())?;
+        let metrics = ScalarArray::<LongMetric>::read_at(hmtx, 0, count.into())?;
         let others = self.glyph_count()?.saturating_sub(count);
-        ScalarArray::<FWord>::take_from(&mut hmtx, others.into())?;
+        ScalarArray::<FWord>::read_at(hmtx, 4 * metrics.len(), others.into())?;
         Some(metrics)
     }
 
@@ -93,11 +93,9 @@ pub fn advance_of(metrics: ScalarArray<'_, LongMetric>, glyph: GlyphId16) -> Opt
 
 fn of_format_4(subtable: &[u8], code: u16) -> Option<GlyphId16> {
     let count = usize::from(u16::read_at(subtable, 6)? / 2);
-    let mut rest = subtable.get(14..)?;
-    let ends = ScalarArray::<u16>::take_from(&mut rest, count)?;
-    let _reserved = u16::take_from(&mut rest)?;
-    let mut column = || ScalarArray::<u16>::take_from(&mut rest, count);
-    let [starts, deltas, offsets] = [column()?, column()?, column()?];
+    let start = |n: usize| 14 + 2 * n * count + 2 * n.min(1);
+    let column = |n| ScalarArray::<u16>::read_at(subtable, start(n), count);
+    let [ends, starts, deltas, offsets] = [column(0)?, column(1)?, column(2)?, column(3)?];
     let segment = ends.binary_search(&code).unwrap_or_else(|after| after);
     let place = usize::from(code.checked_sub(starts.get(segment)?)?);
     let glyph = match offsets.get(segment)? {
@@ -121,9 +119,7 @@ record! {
 }
 
 fn of_format_12(subtable: &[u8], code: u32) -> Option<GlyphId16> {
-    let mut rest = subtable.get(12..)?;
-    let count = u32::take_from(&mut rest)? as usize;
-    let groups = ScalarArray::<Group>::take_from(&mut rest, count)?;
+    let groups = ScalarArray::<Group>::read_at(subtable, 16, u32::read_at(subtable, 12)? as usize)?;
     let place = groups.binary_search_by_key(&code, |group| group.end);
     let group = groups.get(place.unwrap_or_else(|after| after))?;
     let glyph = group.glyph.wrapping_add(code.checked_sub(group.start)?);

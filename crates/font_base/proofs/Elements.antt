@@ -1,7 +1,7 @@
 -- Elements of an array, and the byte arrays that they are.
 use Rattle.std.proofs.Common.{◌≡◌, ◌∙◌, sym, ap, refl, ℕ, zero, suc, ◌+◌, ◌-◌, ◌*◌, ◌/◌, ◌%◌, ◌<◌, ◌≤◌, Bool, IsTrue}
 use Rattle.std.proofs.Common.{List, [], ◌∷◌, ◌++◌, map, length, take, drop, get_or, flat_map, arith, ◌&&◌, ◌==◌}
-use Rattle.std.proofs.Common.{length-append, suc-mul, zero-mul, take-take}
+use Rattle.std.proofs.Common.{length-append, suc-mul, zero-mul, drop-drop, take-take}
 use Rattle.std.proofs.Math.Seq.{take-append_seam, drop-append_seam, take-append-add, drop-append-add}
 use Rattle.std.proofs.lemmas.List.{take-append-le, take-map, drop-map, drop-take}
 use Rattle.std.proofs.{lemmas.Bool.Decides.nat_tests, lemmas.Grind.common_steps}
@@ -12,16 +12,17 @@ pub length-elements : (size n : ℕ) (bytes : List ℕ) → length (elements siz
 length-elements size zero bytes = refl
 length-elements size (suc n) bytes = ap suc (length-elements size n (drop size bytes))
 
--- an element of the first n, in the bytes that these were read from
-pub element_of : (size n i : ℕ) (bytes : List ℕ) → i < n
-    → take size (drop (i * size) (take (n * size) bytes)) ≡ take size (drop (i * size) bytes)
-element_of size n i bytes within =
+-- an element of an array that begins at an offset, in the bytes that it was read from
+pub element_of : (size n i offset : ℕ) (bytes : List ℕ) → i < n
+    → take size (drop (i * size) (take (n * size) (drop offset bytes))) ≡ take size (drop (offset + i * size) bytes)
+element_of size n i offset bytes within =
     let after : ℕ = n - suc i in
     let as_parts : n ≡ i + suc after = omega (arith, within) in
     let parts : n * size ≡ i * size + (size + after * size) = ap (λ k. k * size) as_parts ∙ times i after size in
-    ap (λ m. take size (drop (i * size) (take m bytes))) parts
-    ∙ ap (take size) (drop-take (i * size) (size + after * size) bytes)
-    ∙ take-take size (size + after * size) (drop (i * size) bytes) (omega arith)
+    ap (λ m. take size (drop (i * size) (take m (drop offset bytes)))) parts
+    ∙ ap (take size) (drop-take (i * size) (size + after * size) (drop offset bytes))
+    ∙ take-take size (size + after * size) (drop (i * size) (drop offset bytes)) (omega arith)
+    ∙ ap (take size) (drop-drop (i * size) offset bytes)
   where
     times : (i k m : ℕ) → (i + suc k) * m ≡ i * m + (m + k * m)
     times i k m = grind arith
@@ -117,17 +118,9 @@ module _ {R : Type 0} (is_value : R → Bool) (bytes : R → List ℕ) (size : �
   -- ---- parts of an array
 
   -- the first n of the arrays that bytes begin with, after which `left` is too short for one
-  first_bytes : (n : ℕ) (xs : List R) (all left : List ℕ) → Are xs → n ≤ length xs
+  part_bytes : (n : ℕ) (xs : List R) (all left : List ℕ) → Are xs → n ≤ length xs
       → flat_map bytes xs ++ left ≡ all → flat_map bytes (take n xs) ≡ take (n * size) all
-  first_bytes n xs all left are within is = grind (arith, flat_map, all_long, take-append-le, flat_take)
-
-  pub part_bytes : (n : ℕ) (xs part : List R) (all left : List ℕ) → Are xs → n ≤ length xs
-      → flat_map bytes xs ++ left ≡ all → part ≡ take (n - 0) xs → flat_map bytes part ≡ take (n * size) all
-  part_bytes n xs part all left are within is part_is = grind (arith, common_steps, first_bytes)
-
-  pub part_elements : (n : ℕ) (part : List R) (all : List ℕ) → flat_map bytes part ≡ take (n * size) all
-      → (i : ℕ) → i < n → element size (flat_map bytes part) i ≡ take size (drop (i * size) all)
-  part_elements n part all is i within = rw is (element_of size n i all within)
+  part_bytes n xs all left are within is = grind (arith, flat_map, all_long, take-append-le, flat_take)
 
   pub part_many : (n : ℕ) (xs : List R) (all left : List ℕ) → Are xs → 0 < size
       → flat_map bytes xs ++ left ≡ all → length left ≡ length all % size
@@ -145,11 +138,22 @@ module _ {R : Type 0} (is_value : R → Bool) (bytes : R → List ℕ) (size : �
       ≡ take (end - start) (drop start (elements size (length (flat_map bytes xs) / size) (flat_map bytes xs)))
   middle_elements start end xs part are part_are is = grind (arith, all_elements, drop-map, take-map)
 
+  -- those that begin at an offset
+  pub read_bytes : (n offset : ℕ) (xs part : List R) (file all left : List ℕ) → Are xs → n ≤ length xs
+      → flat_map bytes xs ++ left ≡ all → all ≡ take (length file - offset) (drop offset file)
+      → part ≡ take (n - 0) xs → flat_map bytes part ≡ take (n * size) (drop offset file)
+  read_bytes n offset xs part file all left are within is from part_is = grind (arith, common_steps, part_bytes)
+
+  pub read_elements : (n offset : ℕ) (part : List R) (file : List ℕ)
+      → flat_map bytes part ≡ take (n * size) (drop offset file) → (i : ℕ) → i < n
+      → element size (flat_map bytes part) i ≡ take size (drop (offset + i * size) file)
+  read_elements n offset part file is i within = rw is (element_of size n i offset file within)
+
 pub ruleset len_rules = (all_long, counted)
 
 pub ruleset element_rules = (counted, element_is, value_is)
 
-pub ruleset part_rules = (all_long, counted, are_take, part_many, part_bytes, part_elements)
+pub ruleset part_rules = (all_long, counted, are_take, part_many, read_bytes, read_elements)
 
 pub ruleset slice_rules = (counted, are_take, are_drop, middle_bytes, middle_elements)
 

@@ -57,6 +57,40 @@ impl<'a, T: Scalar> ScalarArray<'a, T> {
         Some(ScalarArray { raw })
     }
 
+    /// Reads an array of `count` elements at `offset`, or returns `None` if the bytes end before it
+    /// does.
+    ///
+    /// If `RAW_BYTE_LEN` is 0, the array is empty.
+    ///
+    /// ```
+    /// use font_types::ScalarArray;
+    /// let table = [0, 2, 0x00, 0x5A, 0x00, 0x7A, 0xFF];
+    /// let ends = ScalarArray::<u16>::read_at(&table, 2, 2).unwrap();
+    /// assert_eq!((ends.len(), ends.last()), (2, Some(0x7A)));
+    /// assert!(ScalarArray::<u16>::read_at(&table, 2, 3).is_none());
+    /// ```
+    #[tactic(auto, using(crate::proofs::Elements::part_rules))]
+    pub fn read_at(bytes: &'a [u8], offset: usize, count: usize) -> Option<ScalarArray<'a, T>>
+    where
+        T::Raw: ByteChunks,
+        ensures variant { IsSome result ↔ (offset + count * T.RAW_BYTE_LEN ≤ length bytes.now) }
+        ensures bytes { IfSome result (λ array.
+            array_bytes array ≡ take (count * T.RAW_BYTE_LEN) (drop offset bytes.now)) }
+        ensures len { 0 < T.RAW_BYTE_LEN → IfSome result (λ array. array_len array ≡ count) }
+        ensures elements { IfSome result (λ array. (i : ℕ) → i < count → element_bytes array i
+            ≡ take T.RAW_BYTE_LEN (drop (offset + i * T.RAW_BYTE_LEN) bytes.now)) }
+    {
+        prove!(T::RAW_BYTE_LEN == <T::Raw as BeByteArray>::LEN);
+        let (raw, _) = T::Raw::as_chunks(bytes.get(offset..)?);
+        // Scalars of no bytes make an empty array, whatever their number.
+        if T::RAW_BYTE_LEN == 0 {
+            return Some(ScalarArray { raw });
+        }
+        Some(ScalarArray {
+            raw: raw.get(..count)?,
+        })
+    }
+
     /// Reads an array of `count` elements from the start of `bytes`, and moves `bytes` to what is
     /// after it, or returns `None` and moves nothing if the bytes end before it does.
     ///
@@ -71,7 +105,6 @@ impl<'a, T: Scalar> ScalarArray<'a, T> {
     /// assert!(ScalarArray::<u16>::take_from(&mut rest, 1).is_none());
     /// assert_eq!(rest, [0xFF]);
     /// ```
-    #[tactic(auto, using(crate::proofs::Elements::part_rules))]
     pub fn take_from(bytes: &mut &'a [u8], count: usize) -> Option<ScalarArray<'a, T>>
     where
         T::Raw: ByteChunks,
@@ -85,15 +118,9 @@ impl<'a, T: Scalar> ScalarArray<'a, T> {
             bytes.new.now ≡ drop (count * T.RAW_BYTE_LEN) bytes.old.now) }
         ensures kept { IfNone result (bytes.new ≡ bytes.old) }
     {
-        prove!(T::RAW_BYTE_LEN == <T::Raw as BeByteArray>::LEN);
-        let (raw, _) = T::Raw::as_chunks(bytes);
-        // Scalars of no bytes make an empty array, whatever their number.
-        if T::RAW_BYTE_LEN == 0 {
-            return Some(ScalarArray { raw });
-        }
-        let raw = raw.get(..count)?;
+        let array = ScalarArray::read_at(bytes, 0, count)?;
         *bytes = &bytes[count * T::RAW_BYTE_LEN..];
-        Some(ScalarArray { raw })
+        Some(array)
     }
 
     /// Returns the number of elements.

@@ -72,6 +72,46 @@ impl<'a, T: Scalar> ScalarArray<'a, T> {
         Some(ScalarArray { raw })
     }
 
+    /// Reads an array of `count` elements at `offset`, or returns `None` if the bytes end before it
+    /// does.
+    ///
+    /// If `RAW_BYTE_LEN` is 0, the array is empty.
+    ///
+    /// ```
+    /// use font_types_proved::ScalarArray;
+    /// let table = [0, 2, 0x00, 0x5A, 0x00, 0x7A, 0xFF];
+    /// let ends = ScalarArray::<u16>::read_at(&table, 2, 2).unwrap();
+    /// assert_eq!((ends.len(), ends.last()), (2, Some(0x7A)));
+    /// assert!(ScalarArray::<u16>::read_at(&table, 2, 3).is_none());
+    /// ```
+    ///
+    /// <details><summary>Contract</summary>
+    ///
+    /// ```text
+    /// ensures variant { IsSome result ↔ (offset + count * T.RAW_BYTE_LEN ≤ length bytes.now) }
+    /// ensures bytes { IfSome result (λ array.
+    ///     array_bytes array ≡ take (count * T.RAW_BYTE_LEN) (drop offset bytes.now)) }
+    /// ensures len { 0 < T.RAW_BYTE_LEN → IfSome result (λ array. array_len array ≡ count) }
+    /// ensures elements { IfSome result (λ array. (i : ℕ) → i < count → element_bytes array i
+    ///     ≡ take T.RAW_BYTE_LEN (drop (offset + i * T.RAW_BYTE_LEN) bytes.now)) }
+    /// ```
+    /// [Notation](crate::definitions): [`array_bytes`], [`array_len`], [`element_bytes`]
+    /// </details>
+    #[must_use]
+    #[inline]
+    pub fn read_at(bytes: &'a [u8], offset: usize, count: usize) -> Option<ScalarArray<'a, T>>
+    where
+        T::Raw: ByteChunks,
+    {
+        const { assert!(T::RAW_BYTE_LEN == <T::Raw as BeByteArray>::LEN) };
+        let (raw, _) = T::Raw::as_chunks(bytes.get(offset..)?);
+        // Scalars of no bytes make an empty array, whatever their number.
+        if T::RAW_BYTE_LEN == 0 {
+            return Some(ScalarArray { raw });
+        }
+        Some(ScalarArray { raw: raw.get(..count)? })
+    }
+
     /// Reads an array of `count` elements from the start of `bytes`, and moves `bytes` to what is
     /// after it, or returns `None` and moves nothing if the bytes end before it does.
     ///
@@ -108,15 +148,9 @@ impl<'a, T: Scalar> ScalarArray<'a, T> {
     where
         T::Raw: ByteChunks,
     {
-        const { assert!(T::RAW_BYTE_LEN == <T::Raw as BeByteArray>::LEN) };
-        let (raw, _) = T::Raw::as_chunks(bytes);
-        // Scalars of no bytes make an empty array, whatever their number.
-        if T::RAW_BYTE_LEN == 0 {
-            return Some(ScalarArray { raw });
-        }
-        let raw = raw.get(..count)?;
+        let array = ScalarArray::read_at(bytes, 0, count)?;
         *bytes = &bytes[count * T::RAW_BYTE_LEN..];
-        Some(ScalarArray { raw })
+        Some(array)
     }
 
     /// Returns the number of elements.
