@@ -1,6 +1,7 @@
 """What users can name in both packages is that of `tests/api.txt`, with what their types store, so
 that a change of it is one of that file. After an intended change: `python3 tools/tests/api.py`.
-From 1.0 on, nothing is gone that a release with the same first number has, nor a declaration of C.
+From 1.0 on, nothing is gone that a release with the same first number has: no name, no declaration of
+C, and no answer of `fontval`.
 """
 
 import re
@@ -8,7 +9,7 @@ import subprocess
 import sys
 import unittest
 from collections import Counter
-from collections.abc import Iterator
+from collections.abc import Callable, Iterable, Iterator
 from pathlib import Path
 
 ROOT = Path(__file__).parent.parent.parent
@@ -132,23 +133,34 @@ def of_c(shown: str) -> Counter[str]:
     return Counter(it for it in items if not it.startswith("# "))
 
 
-# What stays from 1.0 on, by the folder of its version.
-LASTING = {
-    ".": (of_rust, ["tests/api.txt"]),
-    "c": (of_c, ["c/tests/declarations.txt", "c/font_types.map"]),
-}
+def of_program(shown: str) -> Counter[str]:
+    """Returns what stays of `fontval`: the lines of its input that it does not refuse, each with its
+    answer."""
+    lines, answers = (it.split("\n") for it in shown.split("\n\0\n"))
+    asked = zip(lines, answers)
+    return Counter(f"{line}: {it}" for line, it in asked if not it.startswith("error "))
 
 
-def gone(folder: str, old: str, new: str) -> list[str]:
+# What stays from 1.0 on, by the folder of its version: of which files.
+LASTING = [
+    (".", of_rust, ["tests/api.txt"]),
+    (".", of_program, ["crates/fontval/stdin", "crates/fontval/stdout"]),
+    ("c", of_c, ["c/tests/declarations.txt", "c/font_types.map"]),
+]
+
+
+def gone(lasting: Callable[[str], Counter[str]], old: str, new: str) -> list[str]:
     """Returns what was there, and is gone. A function may become `const`, or be `must_use`."""
-    lasting, _ = LASTING[folder]
     old, new = (it.replace("#[must_use] ", "") for it in (old, new))
     return list((lasting(old) - (lasting(new) | lasting(new.replace("const fn", "fn")))).keys())
 
 
-def of_release(commit: str, path: str) -> str:
-    run = ["git", "show", f"{commit}:{path}"]
-    found = subprocess.run(run, cwd=ROOT, capture_output=True, text=True)
+def joined(files: Iterable[bytes]) -> str:
+    return "\n\0\n".join(it.decode("latin-1") for it in files)
+
+
+def of_release(commit: str, path: str) -> bytes:
+    found = subprocess.run(["git", "show", f"{commit}:{path}"], cwd=ROOT, capture_output=True)
     needs = "a shallow clone lacks this commit of a release: git fetch --unshallow"
     assert found.returncode == 0, f"{commit}: {needs}"
     return found.stdout
@@ -159,13 +171,14 @@ class Api(unittest.TestCase):
         page = (ROOT / "CHANGELOG.md").read_text()
         commits = re.findall(r"^\| \d+\.\S+ \| `(\w+)` \|", page, re.M)
         self.assertGreater(len(commits), 0)
-        for folder, (_, paths) in LASTING.items():
+        for folder, lasting, paths in LASTING:
             first = version.current(folder).split(".")[0]
             for commit in commits if first != "0" else ():
-                if version.of(of_release(commit, f"./{folder}/Cargo.toml")).split(".")[0] == first:
-                    old = "\n".join(of_release(commit, path) for path in paths)
-                    new = "\n".join((ROOT / path).read_text() for path in paths)
-                    self.assertEqual(gone(folder, old, new), [], f"of {commit}")
+                manifest = of_release(commit, f"./{folder}/Cargo.toml").decode()
+                if version.of(manifest).split(".")[0] == first:
+                    old = joined(of_release(commit, path) for path in paths)
+                    new = joined((ROOT / path).read_bytes() for path in paths)
+                    self.assertEqual(gone(lasting, old, new), [], f"of {commit}")
 
     def test_what_is_gone(self) -> None:
         """Of planted changes."""
@@ -181,7 +194,11 @@ class Api(unittest.TestCase):
             ("\nimpl Debug for Shortest", "\nimpl Debug for Shortest\nimpl Ord for Shortest", []),
         ):
             self.assertGreater(listed.count(old), 0, old)
-            self.assertEqual(gone(".", listed, listed.replace(old, new)), lost)
+            self.assertEqual(gone(of_rust, listed, listed.replace(old, new)), lost)
+        asked = joined((ROOT / path).read_bytes() for path in LASTING[1][2])
+        lost = ["int24 fe1dc0: -123456"]
+        self.assertEqual(gone(of_program, asked, asked.replace("-123456", "-12345")), lost)
+
     def test_arguments_of_variations(self) -> None:
         """Those of one function differ in their types."""
         _, package = LIST.read_text().split("\nvariations/src/generated/", 1)
