@@ -3,12 +3,13 @@
 
 pub mod font;
 
-use core::fmt::{self, Write};
 use font::Font;
 use font_types_proved::{
     FWord, Fixed, LongDateTime, MajorMinor, NameId, Scalar, ScalarArray, Tag, UfWord,
     Version16Dot16, record,
 };
+use std::fmt::Display;
+use std::io::{self, Write};
 
 record! {
     #[derive(Clone, Copy, Debug, PartialEq)]
@@ -23,7 +24,7 @@ record! {
 }
 
 /// Writes fields of `head`, `hhea`, `maxp`, `OS/2` and `name`, and a line for each character.
-pub fn dump(font: &Font<'_>, characters: &str, out: &mut impl Write) -> fmt::Result {
+pub fn dump(font: &Font<'_>, characters: &str, out: &mut impl Write) -> io::Result<()> {
     if let Some(head) = font.table(b"head") {
         line::<MajorMinor>(out, "head version", head, 0)?;
         line::<Fixed>(out, "font revision", head, 4)?;
@@ -57,17 +58,17 @@ pub fn dump(font: &Font<'_>, characters: &str, out: &mut impl Write) -> fmt::Res
 }
 
 /// Writes a field, if the table has it.
-fn line<T: Scalar + fmt::Display>(
+fn line<T: Scalar + Display>(
     out: &mut impl Write,
     what: &str,
     table: &[u8],
     offset: usize,
-) -> fmt::Result {
+) -> io::Result<()> {
     value(out, what, T::read_at(table, offset))
 }
 
 /// Writes a value, if there is one.
-fn value(out: &mut impl Write, what: &str, value: Option<impl fmt::Display>) -> fmt::Result {
+fn value(out: &mut impl Write, what: &str, value: Option<impl Display>) -> io::Result<()> {
     match value {
         Some(value) => writeln!(out, "{what}: {value}"),
         None => Ok(()),
@@ -75,7 +76,7 @@ fn value(out: &mut impl Write, what: &str, value: Option<impl fmt::Display>) -> 
 }
 
 /// Writes the names for Windows, which are UTF-16.
-fn names(font: &Font<'_>, out: &mut impl Write) -> fmt::Result {
+fn names(font: &Font<'_>, out: &mut impl Write) -> io::Result<()> {
     let records = font.table(b"name").and_then(|name| {
         let records = ScalarArray::<NameRecord>::read_at(name, 6, u16::read_at(name, 2)?.into())?;
         Some((records, name.get(u16::read_at(name, 4)?.into()..)?))
@@ -88,7 +89,7 @@ fn names(font: &Font<'_>, out: &mut impl Write) -> fmt::Result {
         let units = ScalarArray::<u16>::read_at(storage, start, len);
         write!(out, "{}: ", record.name)?;
         for unit in char::decode_utf16(units.iter().flat_map(|units| units.iter())) {
-            out.write_char(unit.unwrap_or(char::REPLACEMENT_CHARACTER))?;
+            write!(out, "{}", unit.unwrap_or(char::REPLACEMENT_CHARACTER))?;
         }
         writeln!(out)?;
     }
@@ -101,8 +102,7 @@ fn main() -> Result<(), Box<dyn std::error::Error>> {
     let mut words = std::env::args().skip(1);
     let bytes = std::fs::read(words.next().ok_or(usage)?)?;
     let font = Font::new(&bytes).ok_or("no font of one face")?;
-    let mut text = String::new();
-    dump(&font, &words.next().unwrap_or_default(), &mut text)?;
-    print!("{text}");
-    Ok(())
+    let mut out = io::BufWriter::new(io::stdout().lock());
+    dump(&font, &words.next().unwrap_or_default(), &mut out)?;
+    Ok(out.flush()?)
 }

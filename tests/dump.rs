@@ -10,6 +10,12 @@ use dump::{dump, font::Font};
 use fonts::{at_the_limits, font, font_of, hvar, words};
 use runner::{file, run};
 
+fn dumped(font: &Font<'_>, characters: &str) -> String {
+    let mut out = Vec::new();
+    dump(font, characters, &mut out).unwrap();
+    String::from_utf8(out).unwrap()
+}
+
 // Of another encoding of Windows, with half a unit at its end.
 #[test]
 fn dump_of_an_odd_name() {
@@ -20,8 +26,7 @@ fn dump_of_an_odd_name() {
     bytes[place + 3] = 10;
     bytes[place + 9] -= 1;
     let font = Font::new(&bytes).unwrap();
-    let mut text = String::new();
-    dump(&font, "", &mut text).unwrap();
+    let text = dumped(&font, "");
     assert!(text.ends_with("\nFAMILY_NAME: Ütes\n"), "{text}");
 }
 
@@ -30,8 +35,7 @@ fn dump_of_an_odd_name() {
 fn dump_of_a_name_in_a_gap() {
     let name = [0, 1, 24, 3, 1, 0x407, 1, 6, 2, 88, 88, 88, 65, 66, 0xD800, 67];
     let bytes = font_of([(b"name", words(&name))]);
-    let mut text = String::new();
-    dump(&Font::new(&bytes).unwrap(), "", &mut text).unwrap();
+    let text = dumped(&Font::new(&bytes).unwrap(), "");
     assert!(text.ends_with("\nFAMILY_NAME: B\u{FFFD}C\n"), "{text}");
 }
 
@@ -40,8 +44,7 @@ fn dump_of_a_name_after_many_tables() {
     let tags: [_; 64] =
         std::array::from_fn(|n| *format!("A{n:03}").as_bytes().first_chunk().unwrap());
     let bytes = font_of(tags.each_ref().map(|tag| (tag, Vec::new())));
-    let mut text = String::new();
-    dump(&Font::new(&bytes).unwrap(), "", &mut text).unwrap();
+    let text = dumped(&Font::new(&bytes).unwrap(), "");
     assert!(text.ends_with("\nFAMILY_NAME: Ütest\n"), "{text}");
 }
 
@@ -49,8 +52,7 @@ fn dump_of_a_name_after_many_tables() {
 fn dump_of_a_font() {
     let bytes = font(hvar());
     let font = Font::new(&bytes).unwrap();
-    let mut text = String::new();
-    dump(&font, "\n\u{1000A}\u{15}\u{99}\u{9A}🗿😀😁😐😑a", &mut text).unwrap();
+    let text = dumped(&font, "\n\u{1000A}\u{15}\u{99}\u{9A}🗿😀😁😐😑a");
     let wanted = "\
 head version: 1.0
 font revision: 2.5
@@ -87,7 +89,7 @@ a: no glyph
     // A truncated font is read as far as it goes.
     for len in 0..bytes.len() {
         if let Some(font) = Font::new(&bytes[..len]) {
-            dump(&font, "\n", &mut text).unwrap();
+            dumped(&font, "\n");
         }
     }
 }
@@ -105,7 +107,7 @@ fn dump_of_mutated_fonts() {
         let (place, len) = (random(bytes.len() - 8), 1 + random(8));
         bytes[place..place + len].fill([0, 0x7F, 0x80, 0xFF, random(256) as u8][random(5)]);
         if let Some(font) = Font::new(&bytes) {
-            dump(&font, "\n\u{15}\u{99}\u{9A}😀\u{1F610}a", &mut String::new()).unwrap();
+            dumped(&font, "\n\u{15}\u{99}\u{9A}😀\u{1F610}a");
         }
     }
 }
@@ -125,8 +127,7 @@ fn characters_in_two_encodings() {
     ] {
         let cmap = words(&[&[0, count, 3, 1, 0, 20, 3, 10, 0, 52][..], &first, &second].concat());
         let bytes = font_of([(b"cmap", cmap)]);
-        let mut text = String::new();
-        dump(&Font::new(&bytes).unwrap(), "AB", &mut text).unwrap();
+        let text = dumped(&Font::new(&bytes).unwrap(), "AB");
         assert!(text.ends_with(lines), "{text}");
     }
 }
@@ -150,8 +151,7 @@ fn dump_of_a_font_at_the_limits() {
 fn dump_of_tables_that_end_early() {
     let bytes = font_of([(b"head", words(&[1, 0]))]);
     let font = Font::new(&bytes).unwrap();
-    let mut text = String::new();
-    dump(&font, "", &mut text).unwrap();
+    let text = dumped(&font, "");
     let ends = text.starts_with("head version: ") && text.ends_with("\nFAMILY_NAME: Ütest\n");
     assert!(ends, "{text}");
     // The last table ends after the file.
