@@ -5,6 +5,9 @@
 use crate::font_c::status::{COUNT_MISMATCH, OK, OUT_OF_RANGE, TOO_MANY};
 use crate::font_types::{DeltaSum, F48Dot16, Fixed, Scalar};
 
+// The layout of a set is that of `delta_sets.rt` of variations too. DECISIONS says why it is there
+// twice.
+
 // A font counts the regions of a delta set in 16 bits.
 const MOST_SCALARS: usize = 0xFFFF;
 
