@@ -98,6 +98,16 @@ def squeezed(text: str) -> str:
     return "".join(text.split())
 
 
+# A link to a file of this repository, or to a heading.
+LINK = r"\]\(([^):#]*)(?:#([^)]*))?\)"
+
+
+def headings(page: str) -> list[str]:
+    """Returns the headings of a page, as links name them."""
+    found = re.findall(r"^#+ (.*)", page, re.M)
+    return [re.sub(r"[^\w -]", "", it.lower()).replace(" ", "-") for it in found]
+
+
 def quoted(page: str, others: str) -> list[str]:
     """What a page, without its blocks of code, quotes in characters of names and these, without the
     arguments of a call."""
@@ -156,9 +166,12 @@ class Pages(unittest.TestCase):
                 is_there = path in FILES or of("", "/" + path)
                 if path.endswith((".rt", ".antt", ".rs")) and not is_any and not is_there:
                     wrong.append(f"{page}: no file has the name {path}")
-            for link in re.findall(r"\]\(([^)#]+)", shown) if page in pages else ():
-                if ":" not in link and not (ROOT / page).parent.joinpath(link).exists():
+            for link, place in re.findall(LINK, shown) if page in pages else ():
+                target = (ROOT / page).parent.joinpath(link) if link else ROOT / page
+                if not target.exists():
                     wrong.append(f"{page}: no file is where the link leads, {link}")
+                elif place and place not in headings(target.read_text()):
+                    wrong.append(f"{page}: no heading is where the link leads, {link}#{place}")
         if wrong:
             self.fail("\n".join(["", *wrong]))
 
