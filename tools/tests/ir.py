@@ -217,6 +217,35 @@ def is_right(type_):
 print(json.dumps([it for it in ELEMENTS if is_right(it)]))
 """
 
+# Prints why facts are false of arguments: those of a quotient of a slice's length, and one that is
+# true of no length.
+FACTS = """
+import json, z3
+from arithmetic import Arithmetic
+from inputs import inputs
+from ir import Module
+from proof import Proof, Unknown
+from rows.row import Case
+from rows.rules import Products
+
+case = Case("", [("p", "bytes"), ("d", "u64")], "u64", "", None, False, "")
+proof = Proof(Module(""), case, None)
+proof.arithmetic = Arithmetic()
+proof.given = inputs(case, Products(proof.arithmetic))
+length = proof.given.variables["p_length"]
+proof.arithmetic.divide(length, proof.given.variables["d"])
+
+def reason():
+    try:
+        proof.check_facts()
+    except Unknown as error:
+        return str(error).split(" at ")[0]
+
+found = [reason()]
+proof.arithmetic.facts.append(length == 11)
+print(json.dumps([*found, reason()]))
+"""
+
 # Parses a text of `0.`, seven places that count, and others, of which it reads 65,536 again and
 # again; and one that reads them once.
 LOOP = """\
@@ -352,6 +381,9 @@ class Reader(unittest.TestCase):
         for row, found in zip(WRONG, told(REASONS, rows), strict=True):
             with self.subTest(row[:2]):
                 self.assertEqual(found, row[2])
+
+    def test_facts_are_of_known_lengths(self) -> None:
+        self.assertEqual(told(FACTS), [None, "a fact is false"])
 
     def test_another_solver_is_heard(self) -> None:
         *refuted, counts = told(ANSWERED, ["unsat", "unknown", "", "sat", "(error no)"])
