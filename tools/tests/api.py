@@ -169,8 +169,10 @@ def of_release(commit: str, path: str) -> bytes:
 class Api(unittest.TestCase):
     def test_nothing_of_a_release_is_gone(self) -> None:
         page = (ROOT / "CHANGELOG.md").read_text()
-        commits = re.findall(r"^\| \d+\.\S+ \| `(\w+)` \|", page, re.M)
-        self.assertGreater(len(commits), 0)
+        releases, commits = zip(*re.findall(r"^\| (\d+\.\S+) \| `(\w+)` \|", page, re.M))
+        # The newest heading is of what follows the last release.
+        _, *earlier = re.findall(r"^## (\S+)", page, re.M)
+        self.assertEqual([*releases], earlier[: len(releases)], "the row of a release is missing")
         for folder, lasting, paths in LASTING:
             first = version.current(folder).split(".")[0]
             for commit in commits if first != "0" else ():
