@@ -14,8 +14,8 @@ pub mod font;
 use font::{Font, LongMetric, advance_of};
 use font_types_proved::{ByteRecords, F2Dot14, F48Dot16, Fixed, GlyphId16, Scalar, ScalarArray};
 use font_types_proved::{Tag, UfWord};
-use font_variations_proved::VariationAxisRecord;
-use font_variations_proved::{Avar, DeltaSetIndex, Fvar, Hvar, ItemVariationStore, Setting};
+use font_variations_proved::{Avar, CoordinatesError, DeltaSetIndex, Fvar, Hvar};
+use font_variations_proved::{ItemVariationStore, Setting, VariationAxisRecord};
 
 /// A table, which must be one that `read` takes, if the font has it.
 fn table<'a, T>(
@@ -48,10 +48,14 @@ pub fn axes(font: &Font<'_>) -> Result<Vec<VariationAxisRecord>, String> {
     Ok(fvar.map_or(Vec::new(), |fvar| fvar.axes().collect()))
 }
 
-/// The coordinates of a font's axes at these settings, none if it is not variable.
+/// The coordinates of a font's axes at these settings, none if it is not variable. Each setting must
+/// be of an axis of the font.
 pub fn coordinates(font: &Font<'_>, settings: &[Setting]) -> Result<Vec<F2Dot14>, String> {
     let Some(fvar) = table(font, b"fvar", Fvar::new)? else {
-        return Ok(Vec::new());
+        return match settings.first() {
+            Some(setting) => Err(CoordinatesError::NoAxis(setting.axis).to_string()),
+            None => Ok(Vec::new()),
+        };
     };
     let avar = Avar::new(font.table(b"avar")).ok_or("avar: of another version, or too short")?;
     let mut coordinates = vec![F2Dot14::ZERO; fvar.axis_count().into()];
@@ -122,15 +126,6 @@ pub fn metrics(font: &Font<'_>, coordinates: &[F2Dot14]) -> Option<Vec<(Tag, F48
     ByteRecords { offset: 12, count: count?, size: size? }.of(mvar)?.map(delta).collect()
 }
 
-/// The setting that a word is, of an axis that the font has.
-fn setting(word: &str, axes: &[VariationAxisRecord]) -> Result<Setting, String> {
-    let setting: Setting = word.parse().map_err(|error| format!("{word}: {error}"))?;
-    if !axes.iter().any(|axis| axis.axis_tag == setting.axis) {
-        return Err(format!("{word}: the font has no such axis"));
-    }
-    Ok(setting)
-}
-
 #[allow(dead_code)]
 fn main() -> Result<(), Box<dyn std::error::Error>> {
     let usage = "cargo run --example instance -- FONT TEXT 36 37 wght=600 wdth=87.5";
@@ -143,8 +138,8 @@ fn main() -> Result<(), Box<dyn std::error::Error>> {
     let (glyphs, words): (Vec<_>, Vec<_>) = words.partition(|word| word.parse::<u16>().is_ok());
     let (more, words): (Vec<_>, Vec<_>) =
         words.into_iter().partition(|word| ["all", "metrics"].contains(&word.as_str()));
-    let settings: Result<Vec<Setting>, String> =
-        words.iter().map(|word| setting(word, &axes)).collect();
+    let setting = |word: &String| word.parse().map_err(|error| format!("{word}: {error}"));
+    let settings: Result<Vec<Setting>, String> = words.iter().map(setting).collect();
     let coordinates = coordinates(&font, &settings?)?;
     for (axis, coordinate) in axes.iter().zip(&coordinates) {
         let (tag, min, max) = (axis.axis_tag, axis.min_value, axis.max_value);

@@ -55,7 +55,18 @@ fn of_fvar(bytes: &[u8], avar: &[u8], random: &mut Random) -> Option<()> {
     let settings = [b"wght", b"wdth", b"wght"]
         .map(|tag| Setting { axis: Tag::new(tag), value: Fixed::from_bits(random.next() as i32) });
     let mut at = vec![F2Dot14::MAX; if count < 64 { count.into() } else { 64 }];
-    match fvar.coordinates(&avar, &settings, &mut at) {
+    let strict = fvar.coordinates(&avar, &settings, &mut at);
+    let kept = at.clone();
+    let found = fvar.coordinates_ignoring_unknown(&avar, &settings, &mut at);
+    match strict {
+        Ok(()) => assert!(found.is_ok() && at == kept),
+        Err(CoordinatesError::NoAxis(tag)) => {
+            assert!(found.is_ok() && fvar.axes().all(|axis| axis.axis_tag != tag));
+        }
+        Err(error) => assert_eq!(found, Err(error)),
+    }
+    assert!(strict.is_ok() || kept.iter().all(|x| *x == F2Dot14::MAX));
+    match found {
         Ok(()) => assert!(at.iter().all(|x| (F2Dot14::NEG_ONE..=F2Dot14::ONE).contains(x))),
         Err(error) => {
             assert!(at.iter().all(|x| *x == F2Dot14::MAX));

@@ -238,8 +238,6 @@ fn program_instance() {
         assert_eq!(instance_of(&one, words), (output, String::new()), "{words}");
     }
     for (word, error) in [
-        ("wdth=100", "the font has no such axis"),
-        ("Wght=100", "the font has no such axis"),
         ("wght=bold", "value: not a decimal number"),
         ("wght=", "value: not a decimal number"),
         ("wght=32768", "value: number out of range"),
@@ -248,6 +246,14 @@ fn program_instance() {
     ] {
         let found = instance_of(&one, &format!("wght=650 {word}"));
         assert_eq!(found, (String::new(), format!("{word}: {error}")));
+    }
+    for (word, error) in [
+        ("wdth=100", "no axis `wdth`"),
+        ("Wght=100", "no axis `Wght`"),
+        ("wgt=100", "no axis `wgt `"),
+    ] {
+        let found = instance_of(&one, &format!("wght=650 {word}"));
+        assert_eq!(found, (String::new(), error.into()), "{word}");
     }
 }
 
@@ -301,7 +307,7 @@ fn program_instance_of_other_tables() {
     other_store.1[21] = 2;
     more_sets.1[26..28].fill(0xFF);
     for (font, error) in [
-        (font_of([]), "wght=650: the font has no such axis"),
+        (font_of([]), "no axis `wght`"),
         (font_of([axes.clone(), gvar]), "`gvar` without `HVAR`"),
         (font_of([second(axes.clone())]), "fvar: of another version, or too short"),
         (font_of([axes.clone(), second(map.clone())]), "avar: of another version, or too short"),
@@ -318,16 +324,13 @@ fn program_instance_of_other_tables() {
         (font_of([axes.clone(), more_sets]), "glyph 47: no advance by `HVAR`"),
         (font_of([axes.clone(), other_store]), "HVAR: of another version, or too short"),
         (font_of([axes.clone(), (b"HVAR", two)]), "glyph 47: no advance by `HVAR`"),
-        (font_of([not_in_order]), "axis 0: invalid, or without a map"),
-        (font_of([too_wide]), "axis 0: invalid, or without a map"),
-        (font_of([(b"fvar", two_axes()), map]), "axis 1: invalid, or without a map"),
+        (font_of([not_in_order]), "axis `wght`: out of order, or too wide"),
+        (font_of([too_wide]), "axis `wght`: out of order, or too wide"),
+        (font_of([(b"fvar", two_axes()), map]), "axis `wdth`: no map in `avar`"),
         // Bytes after the maps that `avar` counts.
-        (font_of([(b"fvar", two_axes()), longer_map]), "axis 1: invalid, or without a map"),
+        (font_of([(b"fvar", two_axes()), longer_map]), "axis `wdth`: no map in `avar`"),
         (font_of([(b"fvar", two_axes()), fewer_sets]), "glyph 0: no advance by `HVAR`"),
-        (
-            font_of([(b"fvar", words(&[1, 0, 16, 2, 1, 20, 0, 8]))]),
-            "wght=650: the font has no such axis",
-        ),
+        (font_of([(b"fvar", words(&[1, 0, 16, 2, 1, 20, 0, 8]))]), "axis 0: not in `fvar`"),
     ] {
         assert_eq!(instance_of(&font, "wght=650").1, error);
     }
@@ -482,7 +485,7 @@ fn variations_that_are_refused() {
     let axes = two_axes();
     let avar = Avar::new(Some(&[0, 1, 0, 0, 0, 0, 0, 0, 0, 0])).unwrap();
     let found = Fvar::new(&axes).unwrap().coordinates(&avar, &[], &mut [F2Dot14::ZERO; 2]);
-    assert_eq!(found, Err(CoordinatesError::InvalidAxis(0)));
+    assert_eq!(found, Err(CoordinatesError::NoMap(Tag::new(b"wght"))));
 }
 
 // The scalar of an axis that is far from the first.

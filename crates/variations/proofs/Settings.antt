@@ -1,9 +1,10 @@
--- The value of an axis by the settings: none, and one more.
-use Rattle.std.proofs.Common.{◌≡◌, ◌≢◌, refl, ℕ, ℤ, ◌+◌, ◌<◌, List, length, inl, inr, arith, get_or}
+-- The value of an axis by the settings: none, and one more. The settings of no axis.
+use Rattle.std.proofs.Common.{◌≡◌, ◌≢◌, refl, ℕ, ℤ, ◌+◌, ◌<◌, List, length, inl, inr, arith, get_or, ◌≤◌}
 use Rattle.std.proofs.lemmas.List.{get_or_default}
 use Rattle.font_types.specs.{Fixed.fixed_bits, Tag.tag_bytes}
 use Rattle.variations.specs.declared.evaluator.Setting.{Setting}
-use Rattle.variations.specs.Evaluator.{AreOfOthers, IsSetTo}
+use Rattle.variations.specs.Evaluator.{AreOfOthers, IsSetTo, HasAxis, HasTag, axis_tag_bytes}
+use Rattle.variations.specs.Evaluator.{fvar_axis_count}
 
 module _ (settings : List Setting) (tag : List ℕ) (default : ℤ) where
   pub no_setting : IsSetTo settings tag default 0 default
@@ -44,3 +45,9 @@ module _ (settings : List Setting) (tag : List ℕ) (default : ℤ) where
   )
 
 pub ruleset setting_rules = (no_setting, own_setting, other_setting)
+
+-- ---- settings of no axis
+
+pub no_tag : (fvar tag : List ℕ) (n : ℕ) → fvar_axis_count fvar ≤ n
+    → ((k : ℕ) → k < n → HasAxis fvar k → axis_tag_bytes fvar k ≢ tag) → ¬ HasTag fvar tag
+no_tag fvar tag n all none has = none has.axis (omega (arith, all, has.there.within)) has.there has.is_tag

@@ -1,14 +1,15 @@
 -- Values of an evaluator of variations.
 use Rattle.std.specs.Prelude.{◌≡◌, ◌≢◌, ◌⊎◌, ℕ, ◌-◌, ◌<◌, ℤ, pos, neg_ℤ, ◌+ℤ◌, ◌-ℤ◌, ◌≤ℤ◌, ◌<ℤ◌, ◌==◌, List, length}
 use Rattle.std.specs.Prelude.{take, drop, Result, Ok, Err, zero, suc, ◌+◌, ◌*◌, ◌/◌, ◌≤◌, ◌*ℤ◌, slice_index_or, []}
-use Rattle.std.specs.Prelude.{Option, Some, None, IfSome}
-use Rattle.std.specs.{Int.w32, List.position_or_len, List.before_first, List.after_first}
+use Rattle.std.specs.Prelude.{Option, Some, None, IfSome, All}
+use Rattle.std.specs.{Int.w32, List.position_or_len, List.before_first, List.after_first, List.AllWithin, List.HoldsAt}
 use Rattle.font_types.specs.Operations.{IsMulDiv, IsNarrowed, IsQuotient, rounded_mul_div}
 use Rattle.font_types.specs.Fixed.{fixed_bits, fixed_of, Fixed, ONE, NEG_ONE}
 use Rattle.font_types.specs.{Bytes.numeral, Bytes.signed_numeral, Wrap.wrap, Wrap.FitsBits, NumberReading.ParsesFixedPoint}
-use Rattle.font_types.specs.{F2Dot14.f2dot14_bits, F2Dot14.F2Dot14, Tag.IsChecked, Tag.IsAcceptable, Tag.tag_bytes, NameId.name_number}
+use Rattle.font_types.specs.{F2Dot14.f2dot14_bits, F2Dot14.F2Dot14, Tag.IsChecked, Tag.IsAcceptable, Tag.tag_bytes}
+use Rattle.font_types.specs.{NameId.name_number, declared.Tag.Tag}
 use Rattle.variations.specs.declared.evaluator.SettingError.TheVariants.{NoValue, Axis, Value}
-use Rattle.variations.specs.declared.evaluator.CoordinatesError.TheVariants.{Places, InvalidAxis}
+use Rattle.variations.specs.declared.evaluator.CoordinatesError.TheVariants.{Places, NoRecord, NoMap, NoRange, NoAxis}
 use Rattle.variations.specs.declared.evaluator.CoordinatesError.{CoordinatesError}
 use Rattle.variations.specs.declared.evaluator.VariationAxisRecord.{VariationAxisRecord}
 use Rattle.variations.specs.{Variations.stored_bits, declared.evaluator.Setting.Setting}
@@ -231,6 +232,11 @@ pub record IsStoredCoordinate (coordinate : Fixed) (stored : F2Dot14) : Type 0 w
 abbrev pub IsFinal : Fixed → List ℕ → F2Dot14 → Type 0
 IsFinal coordinate map stored = (mapped : Fixed) × IsMapped coordinate map mapped × IsStoredCoordinate mapped stored
 
+-- from -1 to 1, the range of normalized coordinates (OpenType, coordinate scales and normalization), in units of 2^-14
+pub record IsWithinOne (stored : F2Dot14) : Type 0 where
+  pub low : neg_ℤ (pos 16384) ≤ℤ f2dot14_bits stored
+  pub high : f2dot14_bits stored ≤ℤ pos 16384
+
 -- ---- the coordinates of an instance, one for each axis
 
 -- the coordinate of a value on an axis: normalized, mapped and rounded
@@ -261,11 +267,15 @@ abbrev pub map_of : Option (List ℕ) → ℕ → List ℕ
 map_of None axis = []
 map_of (Some avar) axis = segment_map_bytes avar axis
 
+-- the map of the axis is there, or the font has no `avar`
+abbrev pub HasMap : Option (List ℕ) → ℕ → Type 0
+HasMap avar axis = IfSome avar (λ avar. HasSegmentMap avar axis)
+
 -- a value on the axis has a coordinate: the axis and its map are there, and it has a range
 pub record HasCoordinate (fvar : List ℕ) (avar : Option (List ℕ)) (axis : ℕ) : Type 0 where
   pub there : HasAxis fvar axis
   pub range : HasRange (min_of fvar axis) (default_of fvar axis) (max_of fvar axis)
-  pub map : IfSome avar (λ avar. HasSegmentMap avar axis)
+  pub map : HasMap avar axis
 
 -- the coordinate of the value that the axis is set to
 pub record IsCoordinateOf (fvar : List ℕ) (avar : Option (List ℕ)) (settings : List Setting) (axis : ℕ)
@@ -276,13 +286,15 @@ pub record IsCoordinateOf (fvar : List ℕ) (avar : Option (List ℕ)) (settings
       (map_of avar axis) stored
 
 -- each axis has a coordinate
-abbrev pub HaveCoordinates : List ℕ → Option (List ℕ) → Type 0
-HaveCoordinates fvar avar = (axis : ℕ) → axis < fvar_axis_count fvar → HasCoordinate fvar avar axis
+pub record HaveCoordinates (fvar : List ℕ) (avar : Option (List ℕ)) : Type 0 where
+  pub each : (axis : ℕ) → axis < fvar_axis_count fvar → HasCoordinate fvar avar axis
 
 -- the first n coordinates, in the order of the axes
 abbrev pub AreCoordinates : List ℕ → Option (List ℕ) → List Setting → ℕ → List F2Dot14 → Type 0
 AreCoordinates fvar avar settings n coordinates = (axis : ℕ) → axis < n → (d : F2Dot14)
     → IsCoordinateOf fvar avar settings axis (slice_index_or coordinates axis d)
+
+-- ---- why there are no coordinates
 
 -- the first axis without a coordinate
 pub record IsFirstWithout (fvar : List ℕ) (avar : Option (List ℕ)) (axis : ℕ) : Type 0 where
@@ -290,7 +302,49 @@ pub record IsFirstWithout (fvar : List ℕ) (avar : Option (List ℕ)) (axis : �
   pub without : ¬ HasCoordinate fvar avar axis
   pub before : (k : ℕ) → k < axis → HasCoordinate fvar avar k
 
--- the error of so many places
-abbrev pub IsCoordinatesError : List ℕ → Option (List ℕ) → ℕ → CoordinatesError → Type 0
-IsCoordinatesError fvar avar places Places = places ≢ fvar_axis_count fvar
-IsCoordinatesError fvar avar places (InvalidAxis axis) = (places ≡ fvar_axis_count fvar) × IsFirstWithout fvar avar axis
+-- what the axis is without: its record, by the number of the axis, else its map or its range, by the tag
+abbrev pub IsAxisError : List ℕ → Option (List ℕ) → ℕ → CoordinatesError → Type 0
+IsAxisError fvar avar axis Places = ⊥
+IsAxisError fvar avar axis (NoRecord index) = (index ≡ axis) × (¬ HasAxis fvar axis)
+IsAxisError fvar avar axis (NoMap tag) = HasAxis fvar axis × (tag_bytes tag ≡ axis_tag_bytes fvar axis)
+    × (¬ HasMap avar axis)
+IsAxisError fvar avar axis (NoRange tag) = HasAxis fvar axis × (tag_bytes tag ≡ axis_tag_bytes fvar axis)
+    × HasMap avar axis × (¬ HasRange (min_of fvar axis) (default_of fvar axis) (max_of fvar axis))
+IsAxisError fvar avar axis (NoAxis tag) = ⊥
+
+-- the error of so many places, else that of the first axis without a coordinate
+abbrev pub IsAxesError : List ℕ → Option (List ℕ) → ℕ → CoordinatesError → Type 0
+IsAxesError fvar avar places error = ((places ≢ fvar_axis_count fvar) × (error ≡ Places))
+    ⊎ ((places ≡ fvar_axis_count fvar)
+    × ((axis : ℕ) × IsFirstWithout fvar avar axis × IsAxisError fvar avar axis error))
+
+-- an axis has this tag
+pub record HasTag (fvar tag : List ℕ) : Type 0 where
+  pub axis : ℕ
+  pub there : HasAxis fvar axis
+  pub is_tag : axis_tag_bytes fvar axis ≡ tag
+
+-- the setting is of one of the axes
+abbrev pub IsOfAxis : List ℕ → Setting → Type 0
+IsOfAxis fvar setting = HasTag fvar (tag_bytes setting.axis)
+
+-- each setting is
+abbrev pub AreOfAxes : List ℕ → List Setting → Type 0
+AreOfAxes fvar settings = All (IsOfAxis fvar) settings
+
+-- the first setting of no axis has this tag
+pub record IsFirstUnknown (fvar : List ℕ) (settings : List Setting) (tag : Tag) : Type 0 where
+  pub place : ℕ
+  pub within : place < length settings
+  pub before : AllWithin (IsOfAxis fvar) settings 0 place
+  pub there : HoldsAt (λ setting. setting.axis ≡ tag) settings place
+  pub none : ¬ HasTag fvar (tag_bytes tag)
+
+-- the error of that setting
+abbrev pub IsSettingError : List ℕ → List Setting → CoordinatesError → Type 0
+IsSettingError fvar settings error = (tag : Tag) × IsFirstUnknown fvar settings tag × (error ≡ NoAxis tag)
+
+-- the error of the places or an axis, else that of the first setting of no axis
+abbrev pub IsCoordinatesError : List ℕ → Option (List ℕ) → List Setting → ℕ → CoordinatesError → Type 0
+IsCoordinatesError fvar avar settings places error = IsAxesError fvar avar places error
+    ⊎ ((places ≡ fvar_axis_count fvar) × HaveCoordinates fvar avar × IsSettingError fvar settings error)

@@ -2,7 +2,7 @@
 
 ghost use Rattle.std.specs.Prelude.{◌≡◌, ◌≢◌, ◌↔◌, pos, neg_ℤ, ◌≤ℤ◌, ◌<ℤ◌, ◌+ℤ◌, ◌-ℤ◌, ◌*ℤ◌, ◌≤◌};
 ghost use Rattle.std.specs.Prelude.{◌+◌, ◌*◌, IsTrue, IsSome, IfSome, IfNone, MatchOption, length};
-ghost use Rattle.std.specs.Prelude.{IsOk, IfOk, IfErr};
+ghost use Rattle.std.specs.Prelude.{IsOk, IfOk, IfErr, All};
 ghost use Rattle.std.specs.Prelude.{take, drop, ◌-◌, ⊤};
 ghost use Rattle.std.specs.Iterator.{at_most};
 ghost use Rattle.std.specs.Option.{ForSome, option_map};
@@ -18,9 +18,10 @@ ghost use Rattle.variations.specs.Evaluator.{HasSegmentMap, segment_map_bytes, I
 ghost use Rattle.variations.specs.Evaluator.{IsMappedIn, IsMapped, IsStoredCoordinate};
 ghost use Rattle.variations.specs.Evaluator.{map_offset, IsAvar, IsFvar, IsNormalized};
 ghost use Rattle.variations.specs.Evaluator.{fvar_axis_count, HasAxis};
-ghost use Rattle.variations.specs.Evaluator.{IsCoordinate, map_of};
+ghost use Rattle.variations.specs.Evaluator.{IsCoordinate, IsWithinOne, map_of, HasTag};
 ghost use Rattle.variations.specs.Evaluator.{IsSetTo, HasCoordinate, IsCoordinateOf};
-ghost use Rattle.variations.specs.Evaluator.{HaveCoordinates, AreCoordinates, IsFirstWithout};
+ghost use Rattle.variations.specs.Evaluator.{HaveCoordinates, AreCoordinates, AreOfAxes};
+ghost use Rattle.variations.specs.Evaluator.{IsAxisError, IsAxesError, IsSettingError};
 ghost use Rattle.variations.specs.Evaluator.{IsCoordinatesError, IsAxis};
 
 use font_types::{DecimalFault, F2Dot14, Fixed, InvalidTag, NameId, Scalar, Tag};
@@ -182,12 +183,12 @@ impl<'a> Fvar<'a> {
     /// Computes the coordinate of each axis at these settings, in the order of the axes.
     ///
     /// The value of an axis is that of its last setting, or the default if it has none; axes of one
-    /// tag have the same settings, and a setting of no axis of the font has no effect. The value is
-    /// clamped to the axis, and its distance from the default divided by that of the end on its
-    /// side, rounded to 16.16; `avar` maps the result, which is then rounded to 2.14.
+    /// tag have the same settings. The value is clamped to the axis, and its distance from the
+    /// default divided by that of the end on its side, rounded to 16.16; `avar` maps the result,
+    /// which is then rounded to 2.14. So each coordinate is from -1 to 1.
     ///
     /// ```
-    /// use font_variations_proved::{Avar, F2Dot14, Fvar};
+    /// use font_variations_proved::{Avar, CoordinatesError, F2Dot14, Fvar, Tag};
     /// let fvar = b"\0\x01\0\0\0\x10\0\x02\0\x01\0\x14\0\0\0\x04\
     ///     wght\0\x64\0\0\x01\x90\0\0\x03\x84\0\0\0\0\x01\0";
     /// let (fvar, avar) = (Fvar::new(fvar).unwrap(), Avar::new(None).unwrap());
@@ -195,6 +196,10 @@ impl<'a> Fvar<'a> {
     /// let mut coordinates = [F2Dot14::ZERO; 1];
     /// fvar.coordinates(&avar, &settings, &mut coordinates).unwrap();
     /// assert_eq!(coordinates[0].to_string(), "0.5");
+    ///
+    /// let misspelt = ["Wght=650".parse().unwrap()];
+    /// let found = fvar.coordinates(&avar, &misspelt, &mut coordinates);
+    /// assert_eq!(found, Err(CoordinatesError::NoAxis(Tag::new(b"Wght"))));
     /// ```
     ///
     /// OpenType allows an axis that is wider than 16.16 holds, such as one from -20000 to 20000. Its
@@ -206,9 +211,9 @@ impl<'a> Fvar<'a> {
     ///
     /// # Errors
     ///
-    /// `Places` unless `coordinates` are as many as the axes, and else `InvalidAxis` of the first
-    /// axis without a coordinate: a table ends before it or its map, or it is not in order, or it is
-    /// wider than 16.16 holds. Then `coordinates` are as before.
+    /// `Places` unless `coordinates` are as many as the axes. Else the error of the first axis that
+    /// has no coordinate: `NoRecord`, `NoMap` or `NoRange`. Else `NoAxis` of the first setting whose
+    /// tag no axis has. Then `coordinates` are as before.
     pub fn coordinates(
         &self,
         avar: &Avar<'_>,
@@ -216,21 +221,50 @@ impl<'a> Fvar<'a> {
         coordinates: &mut [F2Dot14],
     ) -> Result<(), CoordinatesError>
         ensures variant { IsOk result ↔ ((length coordinates.old ≡ fvar_axis_count self.now.bytes.now)
-            × HaveCoordinates self.now.bytes.now (option_map (λ avar. avar.now) avar.now.bytes)) }
+            × HaveCoordinates self.now.bytes.now (option_map (λ avar. avar.now) avar.now.bytes)
+            × AreOfAxes self.now.bytes.now settings.now) }
         ensures error { IfErr result (λ error. IsCoordinatesError self.now.bytes.now
+            (option_map (λ avar. avar.now) avar.now.bytes) settings.now (length coordinates.old)
+            error) }
+        ensures kept { IfErr result (λ _. coordinates.new ≡ coordinates.old) }
+        ensures len { length coordinates.new ≡ length coordinates.old }
+        ensures value { IfOk result (λ _. AreCoordinates self.now.bytes.now
+            (option_map (λ avar. avar.now) avar.now.bytes) settings.now (length coordinates.new)
+            coordinates.new) }
+        ensures within { IfOk result (λ _. All IsWithinOne coordinates.new) }
+    {
+        check_axes(self, avar, coordinates.len())?;
+        check_settings(self, settings)?;
+        write_coordinates(self, avar, settings, coordinates);
+        Ok(())
+    }
+
+    /// Computes the coordinates as [`coordinates`](Fvar::coordinates) does, but ignores each setting
+    /// whose tag no axis has.
+    ///
+    /// This is for the settings of a text, which are given to each font of a list.
+    ///
+    /// # Errors
+    ///
+    /// Those of `coordinates`, except `NoAxis`. Then `coordinates` are as before.
+    pub fn coordinates_ignoring_unknown(
+        &self,
+        avar: &Avar<'_>,
+        settings: &[Setting],
+        coordinates: &mut [F2Dot14],
+    ) -> Result<(), CoordinatesError>
+        ensures variant { IsOk result ↔ ((length coordinates.old ≡ fvar_axis_count self.now.bytes.now)
+            × HaveCoordinates self.now.bytes.now (option_map (λ avar. avar.now) avar.now.bytes)) }
+        ensures error { IfErr result (λ error. IsAxesError self.now.bytes.now
             (option_map (λ avar. avar.now) avar.now.bytes) (length coordinates.old) error) }
         ensures kept { IfErr result (λ _. coordinates.new ≡ coordinates.old) }
         ensures len { length coordinates.new ≡ length coordinates.old }
         ensures value { IfOk result (λ _. AreCoordinates self.now.bytes.now
             (option_map (λ avar. avar.now) avar.now.bytes) settings.now (length coordinates.new)
             coordinates.new) }
+        ensures within { IfOk result (λ _. All IsWithinOne coordinates.new) }
     {
-        if coordinates.len() != usize::from(self.axis_count()) {
-            return Err(CoordinatesError::Places);
-        }
-        if let Some(axis) = first_without(self, avar) {
-            return Err(CoordinatesError::InvalidAxis(axis));
-        }
+        check_axes(self, avar, coordinates.len())?;
         write_coordinates(self, avar, settings, coordinates);
         Ok(())
     }
@@ -287,7 +321,7 @@ impl<'a> Clone for Axes<'a> {
     }
 }
 
-/// Why the axes have no coordinates.
+/// Why there are no coordinates.
 ///
 /// ```
 /// use font_variations_proved::{Avar, CoordinatesError, F2Dot14, Fvar};
@@ -304,9 +338,18 @@ pub enum CoordinatesError {
     /// The places are more or fewer than the axes.
     #[error("not one place for each axis")]
     Places,
-    /// The axis with this number has no coordinate.
-    #[error("axis {0}: invalid, or without a map")]
-    InvalidAxis(u16),
+    /// `fvar` ends before the record of the axis with this number.
+    #[error("axis {0}: not in `fvar`")]
+    NoRecord(u16),
+    /// `avar` has no map of the axis with this tag, or ends before it does.
+    #[error("axis `{0}`: no map in `avar`")]
+    NoMap(Tag),
+    /// The values of the axis with this tag are out of order, or it is wider than 16.16 holds.
+    #[error("axis `{0}`: out of order, or too wide")]
+    NoRange(Tag),
+    /// No axis has the tag of a setting.
+    #[error("no axis `{0}`")]
+    NoAxis(Tag),
 }
 
 // Reads an axis of `fvar`, or returns `None` if there are fewer than 20 bytes.
@@ -529,6 +572,7 @@ fn coordinate(axis: VariationAxisRecord, value: Fixed, map: &[u8]) -> Option<F2D
     ensures value { IfSome result (λ stored. IsCoordinate (fixed_bits axis.min_value)
         (fixed_bits axis.default_value) (fixed_bits axis.max_value) (fixed_bits value) map.now
         stored) }
+    ensures within { IfSome result IsWithinOne }
 {
     let normalized = normalize(axis, value)?;
     Some(to_stored(mapped(normalized, map)))
@@ -558,36 +602,70 @@ fn coordinate_along(
     settings: &[Setting],
     index: u16,
     start: usize,
-) -> Option<(F2Dot14, usize)>
+) -> Result<(F2Dot14, usize), CoordinatesError>
     requires { IfSome avar.now.bytes (λ avar. start ≡ map_offset avar.now index) }
-    ensures variant { IsSome result
+    ensures variant { IsOk result
         ↔ HasCoordinate fvar.now.bytes.now (option_map (λ avar. avar.now) avar.now.bytes) index }
-    ensures value { IfSome result (λ found. IsCoordinateOf fvar.now.bytes.now
+    ensures error { IfErr result (λ error. IsAxisError fvar.now.bytes.now
+        (option_map (λ avar. avar.now) avar.now.bytes) index error) }
+    ensures value { IfOk result (λ found. IsCoordinateOf fvar.now.bytes.now
         (option_map (λ avar. avar.now) avar.now.bytes) settings.now index found.0) }
-    ensures next { IfSome result (λ found. IfSome avar.now.bytes (λ avar.
+    ensures within { IfOk result (λ found. IsWithinOne found.0) }
+    ensures next { IfOk result (λ found. IfSome avar.now.bytes (λ avar.
         found.1 ≡ map_offset avar.now (index + 1))) }
 {
-    let axis = fvar.axis(index)?;
-    let (map, next) = avar.mappings(index, start)?;
-    Some((coordinate(axis, value_of(axis, settings), map)?, next))
+    let axis = fvar.axis(index).ok_or(CoordinatesError::NoRecord(index))?;
+    let (map, next) = avar
+        .mappings(index, start)
+        .ok_or(CoordinatesError::NoMap(axis.axis_tag))?;
+    let value = value_of(axis, settings);
+    let coordinate = coordinate(axis, value, map).ok_or(CoordinatesError::NoRange(axis.axis_tag))?;
+    Ok((coordinate, next))
 }
 
-// Returns the first axis without a coordinate.
+// Refuses other places than one for each axis, and else the first axis without a coordinate.
 #[tactic(auto, using(font_types::proofs::Callers::calls, crate::proofs::Segments::map_rules))]
-fn first_without(fvar: &Fvar<'_>, avar: &Avar<'_>) -> Option<u16>
-    ensures { MatchOption result
-        (HaveCoordinates fvar.now.bytes.now (option_map (λ avar. avar.now) avar.now.bytes))
-        (λ axis. IsFirstWithout fvar.now.bytes.now (option_map (λ avar. avar.now) avar.now.bytes)
-        axis) }
+fn check_axes(fvar: &Fvar<'_>, avar: &Avar<'_>, places: usize) -> Result<(), CoordinatesError>
+    ensures variant { IsOk result ↔ ((places ≡ fvar_axis_count fvar.now.bytes.now)
+        × HaveCoordinates fvar.now.bytes.now (option_map (λ avar. avar.now) avar.now.bytes)) }
+    ensures error { IfErr result (λ error. IsAxesError fvar.now.bytes.now
+        (option_map (λ avar. avar.now) avar.now.bytes) places error) }
 {
+    if places != usize::from(fvar.axis_count()) {
+        return Err(CoordinatesError::Places);
+    }
     let mut start = 8;
     for axis in 0..fvar.axis_count() {
-        let Some((_, next)) = coordinate_along(fvar, avar, &[], axis, start) else {
-            return Some(axis);
-        };
+        let (_, next) = coordinate_along(fvar, avar, &[], axis, start)?;
         start = next;
     }
-    None
+    Ok(())
+}
+
+// Returns whether an axis has this tag.
+fn has_tag(fvar: &Fvar<'_>, tag: Tag) -> bool
+    ensures { IsTrue result ↔ HasTag fvar.now.bytes.now (tag_bytes tag) }
+{
+    for number in 0..fvar.axis_count() {
+        if fvar.axis(number).is_some_and(|axis| axis.axis_tag == tag) {
+            return true;
+        }
+    }
+    false
+}
+
+// Refuses the first setting whose tag no axis has.
+fn check_settings(fvar: &Fvar<'_>, settings: &[Setting]) -> Result<(), CoordinatesError>
+    ensures variant { IsOk result ↔ AreOfAxes fvar.now.bytes.now settings.now }
+    ensures error { IfErr result (λ error.
+        IsSettingError fvar.now.bytes.now settings.now error) }
+{
+    for setting in settings {
+        if !has_tag(fvar, setting.axis) {
+            return Err(CoordinatesError::NoAxis(setting.axis));
+        }
+    }
+    Ok(())
 }
 
 // Writes the coordinates of all axes.
@@ -603,6 +681,7 @@ fn write_coordinates(
     ensures len { length coordinates.new ≡ length coordinates.old }
     ensures value { AreCoordinates fvar.now.bytes.now (option_map (λ avar. avar.now) avar.now.bytes)
         settings.now (length coordinates.new) coordinates.new }
+    ensures within { All IsWithinOne coordinates.new }
 {
     let mut start = 8;
     for index in 0..fvar.axis_count() {

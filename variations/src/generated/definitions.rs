@@ -839,7 +839,7 @@ pub mod variations {
 
     /// Values of an evaluator of variations.
     ///
-    /// In the order of `crates/variations/specs/Evaluator.antt`: [`value_start`](mod@Evaluator_antt::value_start), [`axis_part`](mod@Evaluator_antt::axis_part), [`value_part`](mod@Evaluator_antt::value_part), [`IsSetting`](mod@Evaluator_antt::IsSetting), [`ParsesSetting`](mod@Evaluator_antt::ParsesSetting), [`fvar_version`](mod@Evaluator_antt::fvar_version), [`fvar_axis_count`](mod@Evaluator_antt::fvar_axis_count), [`fvar_axis_size`](mod@Evaluator_antt::fvar_axis_size), [`IsFvar`](mod@Evaluator_antt::IsFvar), [`axis_offset`](mod@Evaluator_antt::axis_offset), [`HasAxis`](mod@Evaluator_antt::HasAxis), [`axis_bytes`](mod@Evaluator_antt::axis_bytes), [`axis_tag_bytes`](mod@Evaluator_antt::axis_tag_bytes), [`min_of`](mod@Evaluator_antt::min_of), [`default_of`](mod@Evaluator_antt::default_of), [`max_of`](mod@Evaluator_antt::max_of), [`IsAxis`](mod@Evaluator_antt::IsAxis), [`HasRange`](mod@Evaluator_antt::HasRange), [`IsNormalized`](mod@Evaluator_antt::IsNormalized), [`lerp_part`](mod@Evaluator_antt::lerp_part), [`lerp_whole`](mod@Evaluator_antt::lerp_whole), [`lerp_rise`](mod@Evaluator_antt::lerp_rise), [`on_line`](mod@Evaluator_antt::on_line), [`FitsLerp`](mod@Evaluator_antt::FitsLerp), [`IsLerp`](mod@Evaluator_antt::IsLerp), [`mapping_count`](mod@Evaluator_antt::mapping_count), [`mapping_at`](mod@Evaluator_antt::mapping_at), [`AreBelow`](mod@Evaluator_antt::AreBelow), [`IsSegmentEnd`](mod@Evaluator_antt::IsSegmentEnd), [`IsMappedIn`](mod@Evaluator_antt::IsMappedIn), [`IsMapped`](mod@Evaluator_antt::IsMapped), [`avar_version`](mod@Evaluator_antt::avar_version), [`IsAvar`](mod@Evaluator_antt::IsAvar), [`avar_axis_count`](mod@Evaluator_antt::avar_axis_count), [`position_map_count`](mod@Evaluator_antt::position_map_count), [`map_offset`](mod@Evaluator_antt::map_offset), [`map_length`](mod@Evaluator_antt::map_length), [`HasSegmentMap`](mod@Evaluator_antt::HasSegmentMap), [`segment_map_bytes`](mod@Evaluator_antt::segment_map_bytes), [`IsStoredCoordinate`](mod@Evaluator_antt::IsStoredCoordinate), [`IsFinal`](mod@Evaluator_antt::IsFinal), [`IsCoordinate`](mod@Evaluator_antt::IsCoordinate), [`AreOfOthers`](mod@Evaluator_antt::AreOfOthers), [`IsLastOf`](mod@Evaluator_antt::IsLastOf), [`IsSetTo`](mod@Evaluator_antt::IsSetTo), [`map_of`](mod@Evaluator_antt::map_of), [`HasCoordinate`](mod@Evaluator_antt::HasCoordinate), [`IsCoordinateOf`](mod@Evaluator_antt::IsCoordinateOf), [`HaveCoordinates`](mod@Evaluator_antt::HaveCoordinates), [`AreCoordinates`](mod@Evaluator_antt::AreCoordinates), [`IsFirstWithout`](mod@Evaluator_antt::IsFirstWithout), [`IsCoordinatesError`](mod@Evaluator_antt::IsCoordinatesError).
+    /// In the order of `crates/variations/specs/Evaluator.antt`: [`value_start`](mod@Evaluator_antt::value_start), [`axis_part`](mod@Evaluator_antt::axis_part), [`value_part`](mod@Evaluator_antt::value_part), [`IsSetting`](mod@Evaluator_antt::IsSetting), [`ParsesSetting`](mod@Evaluator_antt::ParsesSetting), [`fvar_version`](mod@Evaluator_antt::fvar_version), [`fvar_axis_count`](mod@Evaluator_antt::fvar_axis_count), [`fvar_axis_size`](mod@Evaluator_antt::fvar_axis_size), [`IsFvar`](mod@Evaluator_antt::IsFvar), [`axis_offset`](mod@Evaluator_antt::axis_offset), [`HasAxis`](mod@Evaluator_antt::HasAxis), [`axis_bytes`](mod@Evaluator_antt::axis_bytes), [`axis_tag_bytes`](mod@Evaluator_antt::axis_tag_bytes), [`min_of`](mod@Evaluator_antt::min_of), [`default_of`](mod@Evaluator_antt::default_of), [`max_of`](mod@Evaluator_antt::max_of), [`IsAxis`](mod@Evaluator_antt::IsAxis), [`HasRange`](mod@Evaluator_antt::HasRange), [`IsNormalized`](mod@Evaluator_antt::IsNormalized), [`lerp_part`](mod@Evaluator_antt::lerp_part), [`lerp_whole`](mod@Evaluator_antt::lerp_whole), [`lerp_rise`](mod@Evaluator_antt::lerp_rise), [`on_line`](mod@Evaluator_antt::on_line), [`FitsLerp`](mod@Evaluator_antt::FitsLerp), [`IsLerp`](mod@Evaluator_antt::IsLerp), [`mapping_count`](mod@Evaluator_antt::mapping_count), [`mapping_at`](mod@Evaluator_antt::mapping_at), [`AreBelow`](mod@Evaluator_antt::AreBelow), [`IsSegmentEnd`](mod@Evaluator_antt::IsSegmentEnd), [`IsMappedIn`](mod@Evaluator_antt::IsMappedIn), [`IsMapped`](mod@Evaluator_antt::IsMapped), [`avar_version`](mod@Evaluator_antt::avar_version), [`IsAvar`](mod@Evaluator_antt::IsAvar), [`avar_axis_count`](mod@Evaluator_antt::avar_axis_count), [`position_map_count`](mod@Evaluator_antt::position_map_count), [`map_offset`](mod@Evaluator_antt::map_offset), [`map_length`](mod@Evaluator_antt::map_length), [`HasSegmentMap`](mod@Evaluator_antt::HasSegmentMap), [`segment_map_bytes`](mod@Evaluator_antt::segment_map_bytes), [`IsStoredCoordinate`](mod@Evaluator_antt::IsStoredCoordinate), [`IsFinal`](mod@Evaluator_antt::IsFinal), [`IsWithinOne`](mod@Evaluator_antt::IsWithinOne), [`IsCoordinate`](mod@Evaluator_antt::IsCoordinate), [`AreOfOthers`](mod@Evaluator_antt::AreOfOthers), [`IsLastOf`](mod@Evaluator_antt::IsLastOf), [`IsSetTo`](mod@Evaluator_antt::IsSetTo), [`map_of`](mod@Evaluator_antt::map_of), [`HasMap`](mod@Evaluator_antt::HasMap), [`HasCoordinate`](mod@Evaluator_antt::HasCoordinate), [`IsCoordinateOf`](mod@Evaluator_antt::IsCoordinateOf), [`HaveCoordinates`](mod@Evaluator_antt::HaveCoordinates), [`AreCoordinates`](mod@Evaluator_antt::AreCoordinates), [`IsFirstWithout`](mod@Evaluator_antt::IsFirstWithout), [`IsAxisError`](mod@Evaluator_antt::IsAxisError), [`IsAxesError`](mod@Evaluator_antt::IsAxesError), [`HasTag`](mod@Evaluator_antt::HasTag), [`IsOfAxis`](mod@Evaluator_antt::IsOfAxis), [`AreOfAxes`](mod@Evaluator_antt::AreOfAxes), [`IsFirstUnknown`](mod@Evaluator_antt::IsFirstUnknown), [`IsSettingError`](mod@Evaluator_antt::IsSettingError), [`IsCoordinatesError`](mod@Evaluator_antt::IsCoordinatesError).
     pub mod Evaluator_antt {
         use crate::definitions::font_base::{
             Bytes_antt::{numeral, signed_numeral},
@@ -1274,6 +1274,16 @@ pub mod variations {
         /// [`IsMapped`], [`IsStoredCoordinate`]
         pub mod IsFinal {}
 
+        /// from -1 to 1, the range of normalized coordinates (OpenType, coordinate scales and normalization), in units of 2^-14
+        ///
+        /// ```text
+        /// record IsWithinOne (stored : F2Dot14) : Type 0 where
+        ///   low : neg_ℤ (pos 16384) ≤ℤ f2dot14_bits stored
+        ///   high : f2dot14_bits stored ≤ℤ pos 16384
+        /// ```
+        /// [`f2dot14_bits`]
+        pub mod IsWithinOne {}
+
         /// the coordinate of a value on an axis: normalized, mapped and rounded
         ///
         /// ```text
@@ -1327,15 +1337,24 @@ pub mod variations {
         /// [`segment_map_bytes`]
         pub mod map_of {}
 
+        /// the map of the axis is there, or the font has no `avar`
+        ///
+        /// ```text
+        /// abbrev HasMap : Option (List ℕ) → ℕ → Type 0
+        /// HasMap avar axis = IfSome avar (λ avar. HasSegmentMap avar axis)
+        /// ```
+        /// [`HasSegmentMap`]
+        pub mod HasMap {}
+
         /// a value on the axis has a coordinate: the axis and its map are there, and it has a range
         ///
         /// ```text
         /// record HasCoordinate (fvar : List ℕ) (avar : Option (List ℕ)) (axis : ℕ) : Type 0 where
         ///   there : HasAxis fvar axis
         ///   range : HasRange (min_of fvar axis) (default_of fvar axis) (max_of fvar axis)
-        ///   map : IfSome avar (λ avar. HasSegmentMap avar axis)
+        ///   map : HasMap avar axis
         /// ```
-        /// [`HasAxis`], [`HasRange`], [`min_of`], [`default_of`], [`max_of`], [`HasSegmentMap`]
+        /// [`HasAxis`], [`HasRange`], [`min_of`], [`default_of`], [`max_of`], [`HasMap`]
         pub mod HasCoordinate {}
 
         /// the coordinate of the value that the axis is set to
@@ -1354,8 +1373,8 @@ pub mod variations {
         /// each axis has a coordinate
         ///
         /// ```text
-        /// abbrev HaveCoordinates : List ℕ → Option (List ℕ) → Type 0
-        /// HaveCoordinates fvar avar = (axis : ℕ) → axis < fvar_axis_count fvar → HasCoordinate fvar avar axis
+        /// record HaveCoordinates (fvar : List ℕ) (avar : Option (List ℕ)) : Type 0 where
+        ///   each : (axis : ℕ) → axis < fvar_axis_count fvar → HasCoordinate fvar avar axis
         /// ```
         /// [`fvar_axis_count`], [`HasCoordinate`]
         pub mod HaveCoordinates {}
@@ -1381,14 +1400,91 @@ pub mod variations {
         /// [`fvar_axis_count`], [`HasCoordinate`]
         pub mod IsFirstWithout {}
 
-        /// the error of so many places
+        /// what the axis is without: its record, by the number of the axis, else its map or its range, by the tag
         ///
         /// ```text
-        /// abbrev IsCoordinatesError : List ℕ → Option (List ℕ) → ℕ → CoordinatesError → Type 0
-        /// IsCoordinatesError fvar avar places Places = places ≢ fvar_axis_count fvar
-        /// IsCoordinatesError fvar avar places (InvalidAxis axis) = (places ≡ fvar_axis_count fvar) × IsFirstWithout fvar avar axis
+        /// abbrev IsAxisError : List ℕ → Option (List ℕ) → ℕ → CoordinatesError → Type 0
+        /// IsAxisError fvar avar axis Places = ⊥
+        /// IsAxisError fvar avar axis (NoRecord index) = (index ≡ axis) × (¬ HasAxis fvar axis)
+        /// IsAxisError fvar avar axis (NoMap tag) = HasAxis fvar axis × (tag_bytes tag ≡ axis_tag_bytes fvar axis)
+        ///     × (¬ HasMap avar axis)
+        /// IsAxisError fvar avar axis (NoRange tag) = HasAxis fvar axis × (tag_bytes tag ≡ axis_tag_bytes fvar axis)
+        ///     × HasMap avar axis × (¬ HasRange (min_of fvar axis) (default_of fvar axis) (max_of fvar axis))
+        /// IsAxisError fvar avar axis (NoAxis tag) = ⊥
         /// ```
-        /// [`fvar_axis_count`], [`IsFirstWithout`]
+        /// [`HasAxis`], [`tag_bytes`], [`axis_tag_bytes`], [`HasMap`], [`HasRange`], [`min_of`], [`default_of`], [`max_of`]
+        pub mod IsAxisError {}
+
+        /// the error of so many places, else that of the first axis without a coordinate
+        ///
+        /// ```text
+        /// abbrev IsAxesError : List ℕ → Option (List ℕ) → ℕ → CoordinatesError → Type 0
+        /// IsAxesError fvar avar places error = ((places ≢ fvar_axis_count fvar) × (error ≡ Places))
+        ///     ⊎ ((places ≡ fvar_axis_count fvar)
+        ///     × ((axis : ℕ) × IsFirstWithout fvar avar axis × IsAxisError fvar avar axis error))
+        /// ```
+        /// [`fvar_axis_count`], [`IsFirstWithout`], [`IsAxisError`]
+        pub mod IsAxesError {}
+
+        /// an axis has this tag
+        ///
+        /// ```text
+        /// record HasTag (fvar tag : List ℕ) : Type 0 where
+        ///   axis : ℕ
+        ///   there : HasAxis fvar axis
+        ///   is_tag : axis_tag_bytes fvar axis ≡ tag
+        /// ```
+        /// [`HasAxis`], [`axis_tag_bytes`]
+        pub mod HasTag {}
+
+        /// the setting is of one of the axes
+        ///
+        /// ```text
+        /// abbrev IsOfAxis : List ℕ → Setting → Type 0
+        /// IsOfAxis fvar setting = HasTag fvar (tag_bytes setting.axis)
+        /// ```
+        /// [`HasTag`], [`tag_bytes`]
+        pub mod IsOfAxis {}
+
+        /// each setting is
+        ///
+        /// ```text
+        /// abbrev AreOfAxes : List ℕ → List Setting → Type 0
+        /// AreOfAxes fvar settings = All (IsOfAxis fvar) settings
+        /// ```
+        /// [`IsOfAxis`]
+        pub mod AreOfAxes {}
+
+        /// the first setting of no axis has this tag
+        ///
+        /// ```text
+        /// record IsFirstUnknown (fvar : List ℕ) (settings : List Setting) (tag : Tag) : Type 0 where
+        ///   place : ℕ
+        ///   within : place < length settings
+        ///   before : AllWithin (IsOfAxis fvar) settings 0 place
+        ///   there : HoldsAt (λ setting. setting.axis ≡ tag) settings place
+        ///   none : ¬ HasTag fvar (tag_bytes tag)
+        /// ```
+        /// [`IsOfAxis`], [`HasTag`], [`tag_bytes`]
+        pub mod IsFirstUnknown {}
+
+        /// the error of that setting
+        ///
+        /// ```text
+        /// abbrev IsSettingError : List ℕ → List Setting → CoordinatesError → Type 0
+        /// IsSettingError fvar settings error = (tag : Tag) × IsFirstUnknown fvar settings tag × (error ≡ NoAxis tag)
+        /// ```
+        /// [`IsFirstUnknown`]
+        pub mod IsSettingError {}
+
+        /// the error of the places or an axis, else that of the first setting of no axis
+        ///
+        /// ```text
+        /// abbrev IsCoordinatesError : List ℕ → Option (List ℕ) → List Setting → ℕ → CoordinatesError → Type 0
+        /// IsCoordinatesError fvar avar settings places error = IsAxesError fvar avar places error
+        ///     ⊎ ((places ≡ fvar_axis_count fvar) × HaveCoordinates fvar avar × IsSettingError fvar settings error)
+        /// ```
+        /// [`IsAxesError`], [`fvar_axis_count`], [`HaveCoordinates`], [`IsSettingError`]
         pub mod IsCoordinatesError {}
     }
 

@@ -4,8 +4,8 @@
 
 #[cfg(doc)]
 use crate::definitions::variations::Evaluator_antt::{
-    AreCoordinates, HasAxis, HaveCoordinates, IsAvar, IsAxis, IsCoordinatesError, IsFvar,
-    ParsesSetting, fvar_axis_count,
+    AreCoordinates, AreOfAxes, HasAxis, HaveCoordinates, IsAvar, IsAxesError, IsAxis,
+    IsCoordinatesError, IsFvar, IsWithinOne, ParsesSetting, fvar_axis_count,
 };
 
 use core::iter::FusedIterator;
@@ -212,12 +212,12 @@ impl<'a> Fvar<'a> {
     /// Computes the coordinate of each axis at these settings, in the order of the axes.
     ///
     /// The value of an axis is that of its last setting, or the default if it has none; axes of one
-    /// tag have the same settings, and a setting of no axis of the font has no effect. The value is
-    /// clamped to the axis, and its distance from the default divided by that of the end on its
-    /// side, rounded to 16.16; `avar` maps the result, which is then rounded to 2.14.
+    /// tag have the same settings. The value is clamped to the axis, and its distance from the
+    /// default divided by that of the end on its side, rounded to 16.16; `avar` maps the result,
+    /// which is then rounded to 2.14. So each coordinate is from -1 to 1.
     ///
     /// ```
-    /// use font_variations_proved::{Avar, F2Dot14, Fvar};
+    /// use font_variations_proved::{Avar, CoordinatesError, F2Dot14, Fvar, Tag};
     /// let fvar = b"\0\x01\0\0\0\x10\0\x02\0\x01\0\x14\0\0\0\x04\
     ///     wght\0\x64\0\0\x01\x90\0\0\x03\x84\0\0\0\0\x01\0";
     /// let (fvar, avar) = (Fvar::new(fvar).unwrap(), Avar::new(None).unwrap());
@@ -225,6 +225,10 @@ impl<'a> Fvar<'a> {
     /// let mut coordinates = [F2Dot14::ZERO; 1];
     /// fvar.coordinates(&avar, &settings, &mut coordinates).unwrap();
     /// assert_eq!(coordinates[0].to_string(), "0.5");
+    ///
+    /// let misspelt = ["Wght=650".parse().unwrap()];
+    /// let found = fvar.coordinates(&avar, &misspelt, &mut coordinates);
+    /// assert_eq!(found, Err(CoordinatesError::NoAxis(Tag::new(b"Wght"))));
     /// ```
     ///
     /// OpenType allows an axis that is wider than 16.16 holds, such as one from -20000 to 20000. Its
@@ -236,24 +240,27 @@ impl<'a> Fvar<'a> {
     ///
     /// # Errors
     ///
-    /// `Places` unless `coordinates` are as many as the axes, and else `InvalidAxis` of the first
-    /// axis without a coordinate: a table ends before it or its map, or it is not in order, or it is
-    /// wider than 16.16 holds. Then `coordinates` are as before.
+    /// `Places` unless `coordinates` are as many as the axes. Else the error of the first axis that
+    /// has no coordinate: `NoRecord`, `NoMap` or `NoRange`. Else `NoAxis` of the first setting whose
+    /// tag no axis has. Then `coordinates` are as before.
     ///
     /// <details><summary>Contract</summary>
     ///
     /// ```text
     /// ensures variant { IsOk result ↔ ((length coordinates.old ≡ fvar_axis_count self.now.bytes.now)
-    ///     × HaveCoordinates self.now.bytes.now (option_map (λ avar. avar.now) avar.now.bytes)) }
+    ///     × HaveCoordinates self.now.bytes.now (option_map (λ avar. avar.now) avar.now.bytes)
+    ///     × AreOfAxes self.now.bytes.now settings.now) }
     /// ensures error { IfErr result (λ error. IsCoordinatesError self.now.bytes.now
-    ///     (option_map (λ avar. avar.now) avar.now.bytes) (length coordinates.old) error) }
+    ///     (option_map (λ avar. avar.now) avar.now.bytes) settings.now (length coordinates.old)
+    ///     error) }
     /// ensures kept { IfErr result (λ _. coordinates.new ≡ coordinates.old) }
     /// ensures len { length coordinates.new ≡ length coordinates.old }
     /// ensures value { IfOk result (λ _. AreCoordinates self.now.bytes.now
     ///     (option_map (λ avar. avar.now) avar.now.bytes) settings.now (length coordinates.new)
     ///     coordinates.new) }
+    /// ensures within { IfOk result (λ _. All IsWithinOne coordinates.new) }
     /// ```
-    /// [Notation](crate::definitions): [`fvar_axis_count`], [`HaveCoordinates`], [`IsCoordinatesError`], [`AreCoordinates`]
+    /// [Notation](crate::definitions): [`fvar_axis_count`], [`HaveCoordinates`], [`AreOfAxes`], [`IsCoordinatesError`], [`AreCoordinates`], [`IsWithinOne`]
     /// </details>
     pub fn coordinates(
         &self,
@@ -261,12 +268,44 @@ impl<'a> Fvar<'a> {
         settings: &[Setting],
         coordinates: &mut [F2Dot14],
     ) -> Result<(), CoordinatesError> {
-        if coordinates.len() != usize::from(self.axis_count()) {
-            return Err(CoordinatesError::Places);
-        }
-        if let Some(axis) = first_without(self, avar) {
-            return Err(CoordinatesError::InvalidAxis(axis));
-        }
+        check_axes(self, avar, coordinates.len())?;
+        check_settings(self, settings)?;
+        write_coordinates(self, avar, settings, coordinates);
+        Ok(())
+    }
+
+    /// Computes the coordinates as [`coordinates`](Fvar::coordinates) does, but ignores each setting
+    /// whose tag no axis has.
+    ///
+    /// This is for the settings of a text, which are given to each font of a list.
+    ///
+    /// # Errors
+    ///
+    /// Those of `coordinates`, except `NoAxis`. Then `coordinates` are as before.
+    ///
+    /// <details><summary>Contract</summary>
+    ///
+    /// ```text
+    /// ensures variant { IsOk result ↔ ((length coordinates.old ≡ fvar_axis_count self.now.bytes.now)
+    ///     × HaveCoordinates self.now.bytes.now (option_map (λ avar. avar.now) avar.now.bytes)) }
+    /// ensures error { IfErr result (λ error. IsAxesError self.now.bytes.now
+    ///     (option_map (λ avar. avar.now) avar.now.bytes) (length coordinates.old) error) }
+    /// ensures kept { IfErr result (λ _. coordinates.new ≡ coordinates.old) }
+    /// ensures len { length coordinates.new ≡ length coordinates.old }
+    /// ensures value { IfOk result (λ _. AreCoordinates self.now.bytes.now
+    ///     (option_map (λ avar. avar.now) avar.now.bytes) settings.now (length coordinates.new)
+    ///     coordinates.new) }
+    /// ensures within { IfOk result (λ _. All IsWithinOne coordinates.new) }
+    /// ```
+    /// [Notation](crate::definitions): [`fvar_axis_count`], [`HaveCoordinates`], [`IsAxesError`], [`AreCoordinates`], [`IsWithinOne`]
+    /// </details>
+    pub fn coordinates_ignoring_unknown(
+        &self,
+        avar: &Avar<'_>,
+        settings: &[Setting],
+        coordinates: &mut [F2Dot14],
+    ) -> Result<(), CoordinatesError> {
+        check_axes(self, avar, coordinates.len())?;
         write_coordinates(self, avar, settings, coordinates);
         Ok(())
     }
@@ -321,7 +360,7 @@ impl<'a> Clone for Axes<'a> {
     }
 }
 
-/// Why the axes have no coordinates.
+/// Why there are no coordinates.
 ///
 /// ```
 /// use font_variations_proved::{Avar, CoordinatesError, F2Dot14, Fvar};
@@ -339,8 +378,14 @@ impl<'a> Clone for Axes<'a> {
 pub enum CoordinatesError {
     /// The places are more or fewer than the axes.
     Places,
-    /// The axis with this number has no coordinate.
-    InvalidAxis(u16),
+    /// `fvar` ends before the record of the axis with this number.
+    NoRecord(u16),
+    /// `avar` has no map of the axis with this tag, or ends before it does.
+    NoMap(Tag),
+    /// The values of the axis with this tag are out of order, or it is wider than 16.16 holds.
+    NoRange(Tag),
+    /// No axis has the tag of a setting.
+    NoAxis(Tag),
 }
 
 impl core::error::Error for CoordinatesError {}
@@ -349,9 +394,10 @@ impl core::fmt::Display for CoordinatesError {
     fn fmt(&self, f: &mut core::fmt::Formatter<'_>) -> core::fmt::Result {
         match self {
             Self::Places => write!(f, "not one place for each axis"),
-            Self::InvalidAxis(field_0, ..) => {
-                write!(f, "axis {field_0}: invalid, or without a map")
-            }
+            Self::NoRecord(field_0, ..) => write!(f, "axis {field_0}: not in `fvar`"),
+            Self::NoMap(field_0, ..) => write!(f, "axis `{field_0}`: no map in `avar`"),
+            Self::NoRange(field_0, ..) => write!(f, "axis `{field_0}`: out of order, or too wide"),
+            Self::NoAxis(field_0, ..) => write!(f, "no axis `{field_0}`"),
         }
     }
 }
@@ -521,22 +567,46 @@ fn coordinate_along(
     settings: &[Setting],
     index: u16,
     start: usize,
-) -> Option<(F2Dot14, usize)> {
-    let axis = fvar.axis(index)?;
-    let (map, next) = avar.mappings(index, start)?;
-    Some((coordinate(axis, value_of(axis, settings), map)?, next))
+) -> Result<(F2Dot14, usize), CoordinatesError> {
+    let axis = fvar.axis(index).ok_or(CoordinatesError::NoRecord(index))?;
+    let (map, next) = avar.mappings(index, start).ok_or(CoordinatesError::NoMap(axis.axis_tag))?;
+    let value = value_of(axis, settings);
+    let coordinate =
+        coordinate(axis, value, map).ok_or(CoordinatesError::NoRange(axis.axis_tag))?;
+    Ok((coordinate, next))
 }
 
-// Returns the first axis without a coordinate.
-fn first_without(fvar: &Fvar<'_>, avar: &Avar<'_>) -> Option<u16> {
+// Refuses other places than one for each axis, and else the first axis without a coordinate.
+fn check_axes(fvar: &Fvar<'_>, avar: &Avar<'_>, places: usize) -> Result<(), CoordinatesError> {
+    if places != usize::from(fvar.axis_count()) {
+        return Err(CoordinatesError::Places);
+    }
     let mut start = 8;
     for axis in 0..fvar.axis_count() {
-        let Some((_, next)) = coordinate_along(fvar, avar, &[], axis, start) else {
-            return Some(axis);
-        };
+        let (_, next) = coordinate_along(fvar, avar, &[], axis, start)?;
         start = next;
     }
-    None
+    Ok(())
+}
+
+// Returns whether an axis has this tag.
+fn has_tag(fvar: &Fvar<'_>, tag: Tag) -> bool {
+    for number in 0..fvar.axis_count() {
+        if fvar.axis(number).is_some_and(|axis| axis.axis_tag == tag) {
+            return true;
+        }
+    }
+    false
+}
+
+// Refuses the first setting whose tag no axis has.
+fn check_settings(fvar: &Fvar<'_>, settings: &[Setting]) -> Result<(), CoordinatesError> {
+    for setting in settings {
+        if !has_tag(fvar, setting.axis) {
+            return Err(CoordinatesError::NoAxis(setting.axis));
+        }
+    }
+    Ok(())
 }
 
 // Writes the coordinates of all axes.

@@ -159,14 +159,46 @@ fn coordinates_of_three_axes() -> Result<(), Fail> {
     let mut at = [F2Dot14::ONE; 3];
     for &(settings, wanted) in &[
         ([set_to(b"wght", 0x102), set_to(b"wdth", 0x506)], [0x304, 0x102, 0x708]),
-        // Of two settings of an axis the last counts, and one of no axis does not.
+        // Of two settings of an axis the last counts.
         ([set_to(b"wght", 0x102), set_to(b"wght", 0x506)], [0x506, 0x506, 0]),
         ([set_to(b"wght", 0x506), set_to(b"wght", 0x102)], [0x304, 0x102, 0]),
-        ([set_to(b"Wght", 0x102), set_to(b"wdth", 0x90A)], [0, 0, 0xB0C]),
     ] {
-        let found = fvar.coordinates(&avar, &settings, &mut at);
-        assert!(rt; found == Ok(()) && at == wanted.map(F2Dot14::from_bits));
+        let (found, wanted) =
+            (fvar.coordinates(&avar, &settings, &mut at), wanted.map(F2Dot14::from_bits));
+        assert!(rt; found == Ok(()) && at == wanted);
+        at = [F2Dot14::ONE; 3];
+        let found = fvar.coordinates_ignoring_unknown(&avar, &settings, &mut at);
+        assert!(rt; found == Ok(()) && at == wanted);
     }
+    Ok(())
+}
+
+#[test]
+fn settings_of_no_axis() -> Result<(), Fail> {
+    let rt = crate::std_for_tests::Host;
+    let (fvar, avar) = (Fvar::new(&THREE).ok_or("axes")?, Avar::new(Some(&AVAR)).ok_or("maps")?);
+    for &(settings, unknown) in &[
+        ([set_to(b"Wght", 1), set_to(b"wdth", 0x90A)], b"Wght"),
+        ([set_to(b"wdth", 0x90A), set_to(b"wgt ", 1)], b"wgt "),
+        ([set_to(b"opsz", 1), set_to(b"slnt", 1)], b"opsz"),
+    ] {
+        let mut at = [F2Dot14::ONE; 3];
+        let found = fvar.coordinates(&avar, &settings, &mut at);
+        assert!(rt; found == Err(CoordinatesError::NoAxis(Tag::new(unknown))));
+        assert!(rt; at == [F2Dot14::ONE; 3]);
+        let found = fvar.coordinates_ignoring_unknown(&avar, &settings, &mut at);
+        let width = if unknown == b"opsz" { 0 } else { 0xB0C };
+        assert!(rt; found == Ok(()) && at == [0, 0, width].map(F2Dot14::from_bits));
+    }
+    // The error of the places comes first, then that of an axis.
+    let (other, short) = ([set_to(b"opsz", 1)], Fvar::new(&THREE[..75]).ok_or("axes")?);
+    let mut at = [F2Dot14::ONE; 3];
+    let found = short.coordinates(&avar, &other, &mut at[..2]);
+    assert!(rt; found == Err(CoordinatesError::Places));
+    let found = short.coordinates(&avar, &other, &mut at);
+    assert!(rt; found == Err(CoordinatesError::NoRecord(2)));
+    let found = short.coordinates_ignoring_unknown(&avar, &other, &mut at);
+    assert!(rt; found == Err(CoordinatesError::NoRecord(2)) && at == [F2Dot14::ONE; 3]);
     Ok(())
 }
 
@@ -182,9 +214,8 @@ fn axes_without_coordinates() -> Result<(), Fail> {
         let mut at = [F2Dot14::ONE; 3];
         let found = fvar.coordinates(&avar, &[], &mut at);
         let wanted = match len {
-            0..14 => Err(CoordinatesError::InvalidAxis(0)),
-            14..16 => Err(CoordinatesError::InvalidAxis(1)),
-            16..26 => Err(CoordinatesError::InvalidAxis(2)),
+            0..16 => Err(CoordinatesError::NoMap(Tag::new(b"wght"))),
+            16..26 => Err(CoordinatesError::NoMap(Tag::new(b"wdth"))),
             _ => Ok(()),
         };
         assert!(rt; found == wanted, "{len} bytes");
@@ -195,9 +226,13 @@ fn axes_without_coordinates() -> Result<(), Fail> {
     assert!(rt; found == Err(CoordinatesError::Places) && four == [F2Dot14::ONE; 4]);
     let found = fvar.coordinates(&none, &[], &mut four[..2]);
     assert!(rt; found == Err(CoordinatesError::Places) && four == [F2Dot14::ONE; 4]);
-    let short = Fvar::new(&THREE[..75]).ok_or("a header")?;
-    let found = short.coordinates(&none, &[], &mut four[..3]);
-    assert!(rt; found == Err(CoordinatesError::InvalidAxis(2)));
+    // The first axis that is without counts: the second is out of order, and the third too.
+    let mut table = THREE;
+    table[40] = 0x7F;
+    table[60] = 0x7F;
+    let fvar = Fvar::new(&table).ok_or("axes")?;
+    let found = fvar.coordinates(&none, &[], &mut four[..3]);
+    assert!(rt; found == Err(CoordinatesError::NoRange(Tag::new(b"wght"))));
     // Of another major version, and of a later minor one.
     for &(byte, value, is_there) in &[(1, 0, false), (1, 2, false), (0, 1, false), (3, 1, true)] {
         let mut table = AVAR;

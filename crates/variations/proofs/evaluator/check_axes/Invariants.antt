@@ -1,7 +1,7 @@
 use Rattle.std.proofs.Common.{◌≡◌, ◌<◌, ℕ, IfSome}
 use Rattle.std.specs.Option.{option_map}
 use Rattle.variations.specs.Evaluator.{map_offset, HasCoordinate}
-use Rattle.variations.proofs.evaluator.first_without.Given as goal
+use Rattle.variations.proofs.evaluator.check_axes.Given as goal
 
 abbrev pub invariant-loop-axis : goal.invariant-loop-axis
 invariant-loop-axis l = IfSome l.avar.bytes (λ avar. l.start ≡ map_offset avar.now l.axis)
