@@ -5,10 +5,10 @@ and `c_views.py` of `rows` have the rows.
 `/usr/bin/python3 tools/smt/header.py [--only PATTERN] [--builds NAME,..] [--solver COMMAND] [FOLDER]`
 
 `clang-22` has the LLVM of rustc 1.95. `FOLDER` has the header. Each build is proved, or those that
-are named, of which `--list` prints the names. `--solver` asks another solver, as in `tools/smt`.
-`--program FILE` writes a program in C instead, which
-prints for each row a number of what the row returns and writes for random arguments: whichever
-compiler makes it, it prints the same, and for sizes of 32 bits whichever processor runs it.
+are named, of which `--list` prints the names; another name is a target of Clang. `--solver` asks
+another solver, as in `tools/smt`. `--program FILE` writes a program in C instead, which prints for
+each row a number of what the row returns and writes for random arguments: whichever compiler makes
+it, it prints the same, and for sizes of 32 bits whichever processor runs it.
 `--constants FILE` writes one in C++14, which compares rows with themselves in constant expressions."""
 
 import argparse
@@ -74,7 +74,8 @@ def prove(folder: Path, build: str, only: str) -> int:
     began, library = time.process_time(), None
     with tempfile.TemporaryDirectory() as room:
         Path(room, "rows.c").write_text(CODE)
-        clang = [CLANG, *FLAGS, *BUILDS[build].split(), f"-I{folder}", f"{room}/rows.c", "-o"]
+        options = BUILDS.get(build, f"--target={build} -ffreestanding").split()
+        clang = [CLANG, *FLAGS, *options, f"-I{folder}", f"{room}/rows.c", "-o"]
         subprocess.run([*clang, f"{room}/rows.ll", "-S", "-emit-llvm"], check=True)
         module = Module(Path(room, "rows.ll").read_text())
         if "-fPIC" in clang:

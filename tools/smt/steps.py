@@ -86,16 +86,20 @@ def divide(machine: Machine, it: Instruction, state: State) -> Value:
     known, (x, y) = machine.arithmetic, (a.bits, b.bits)
     machine.goals.check("a divisor is poison", b.poison, state)
     machine.goals.check("division by zero", y == 0, state)
-    rest = (z3.URem if it.op[0] == "u" else z3.SRem)(x, y)
-    if it.op[0] == "s":
+    is_unsigned = it.op[0] == "u"
+    if not is_unsigned:
         least = z3.And(x == 1 << x.size() - 1, y == -1)
         machine.goals.check("overflow of a division", z3.Or(least, a.poison), state)
+        # LLVM divides two numbers that are not negative in either way.
+        ways = [*state.conditions, *known.facts, z3.Or(x < 0, y < 0)]
+        is_unsigned = not is_constant(y) and not machine.goals.possible(ways)
+    rest = (z3.URem if is_unsigned else z3.SRem)(x, y)
     quotient = {
-        "udiv": known.divide,
-        "urem": functools.partial(known.narrowed, z3.URem),
-        "sdiv": operator.truediv,
-        "srem": z3.SRem,
-    }[it.op]
+        ("div", True): known.divide,
+        ("rem", True): functools.partial(known.narrowed, z3.URem),
+        ("div", False): operator.truediv,
+        ("rem", False): z3.SRem,
+    }[it.op[1:], is_unsigned]
     inexact = rest != 0 if flags else NO
     return Number(fold(quotient(x, y)), any_of(a.poison, b.poison, settle(inexact)))
 
