@@ -68,15 +68,19 @@ def as_in_library(text: str) -> str:
     return re.sub(PATHS, crate, text)
 
 
-def printed(root: Path, package: str, target: str) -> str:
-    """Returns the MIR of a target, with the paths that it has in the library."""
+def emitted(root: Path, package: str, target: str) -> str:
+    """Returns the MIR that cargo and rustc make of a target."""
     with tempfile.TemporaryDirectory() as room:
         cargo = ["cargo", "rustc", "--quiet", target, "--target-dir", room, "--", *FLAGS]
         where, env = root / package, os.environ | ENVIRONMENT
         subprocess.run(cargo, cwd=where, env=env, check=True, capture_output=True, text=True)
-        folder = "examples" if "example" in target else "deps"
-        (file,) = Path(room, "debug", folder).glob("*.mir")
-        text = as_in_library(file.read_text())
+        (file,) = Path(room).rglob("*.mir")
+        return file.read_text()
+
+
+def printed(root: Path, package: str, target: str) -> str:
+    """Returns the MIR of a target, with the paths that it has in the library."""
+    text = as_in_library(emitted(root, package, target))
     text = re.sub(STAND_INS, "core", text) if "bin" in target else text
     own = rf"\1{package}/src/"
     return text if package == "." else re.sub(r"(@| at )src/(?:\.\./\.\./)?", own, text)
