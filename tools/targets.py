@@ -9,6 +9,7 @@ error."""
 import itertools
 import os
 import re
+import resource
 import shutil
 import subprocess
 import sys
@@ -114,7 +115,8 @@ class Machine:
         self.library = self.tree / "usr/lib/rustlib/src/rust/library"
         os.environ["PATH"] = f"{self.tree}/usr/bin:{os.environ['PATH']}"
         os.environ["LD_LIBRARY_PATH"] = f"{self.tree}/usr/lib/x86_64-linux-gnu"
-        os.environ.pop("CARGO_TARGET_DIR", None)
+        for it in ("CARGO_BUILD_TARGET", "CARGO_TARGET_DIR"):
+            os.environ.pop(it, None)
         self.mir = mir()
 
     def apt(self, *arguments: str, where: Path = ROOT) -> str:
@@ -196,11 +198,13 @@ def tested(target: Target, machine: Machine) -> str:
 
 
 def proved(target: Target, machine: Machine) -> str:
-    """Runs the second proof."""
+    """Runs the second proof of the package and of the header."""
     python = "/usr/bin/python3"
     if subprocess.run([python, "-c", "import z3"], capture_output=True).returncode:
         raise Absent(f"{python} has no z3")
-    return run(python, "tools/smt", "--target", target.name).strip().split("\n")[-1]
+    told = run(python, "tools/smt", "--target", target.name)
+    told += run(python, "tools/smt/header.py", "--builds", target.name)
+    return "; ".join(re.findall(r"^(?:header: )?\d+ of \d+ \w+ proved", told, re.M))
 
 
 def show(target: Target, machine: Machine) -> bool:
@@ -220,27 +224,27 @@ def show(target: Target, machine: Machine) -> bool:
     for step in steps:
         try:
             cells.append(f"{step.__name__}: {step(target, machine)}")
-        except Absent as error:
+        except (Absent, Fault) as error:
             cells.append(f"not {step.__name__}: {error}")
-        except Fault as error:
-            cells.append(f"not {step.__name__}: {error}")
-            is_wrong = True
+            is_wrong |= isinstance(error, Fault)
     print(f"| {' | '.join(cells)} |", flush=True)
     return is_wrong
 
 
 def main() -> int:
-    began, pattern = time.monotonic(), "".join(sys.argv[1:])
+    began, pattern = time.monotonic(), " ".join(sys.argv[1:])
     chosen = [it for it in TARGETS if re.search(pattern, it.name)]
     try:
         with tempfile.TemporaryDirectory() as room:
             machine = Machine(Path(room))
             print(run("rustc", "--version").strip())
             wrong = sum(show(it, machine) for it in chosen)
-    except Absent as error:
+    except (Absent, Fault) as error:
         print(error, file=sys.stderr)
         return 1
-    print(f"{len(chosen) - wrong} of {len(chosen)}, {(time.monotonic() - began) / 60:.0f} minutes")
+    minutes, spent = (time.monotonic() - began) / 60, resource.getrusage(resource.RUSAGE_CHILDREN)
+    told = f"{minutes:.0f} minutes, {(spent.ru_utime + spent.ru_stime) / 60:.0f} of processor"
+    print(f"{wrong} of {len(chosen)} targets differ or fail, {told}")
     return int(wrong > 0 or not chosen)
 
 
