@@ -63,23 +63,23 @@ class Target(NamedTuple):
 
 
 TARGETS = (
-    Target(
-        "i686-unknown-linux-gnu",
-        "gcc-i686-linux-gnu libc6-dev-i386-cross",
-        "i686-linux-gnu-gcc",
-        is_proved=True,
-    ),
+    Target("aarch64-unknown-linux-gnu"),
+    Target("armv7-unknown-linux-gnueabihf"),
+    Target("x86_64-pc-windows-msvc"),
+    Target("aarch64-apple-darwin"),
     Target(
         "s390x-unknown-linux-gnu",
         "gcc-s390x-linux-gnu libc6-dev-s390x-cross qemu-user",
         "s390x-linux-gnu-gcc",
         "qemu-s390x",
     ),
+    Target(
+        "i686-unknown-linux-gnu",
+        "gcc-i686-linux-gnu libc6-dev-i386-cross",
+        "i686-linux-gnu-gcc",
+        is_proved=True,
+    ),
     Target("wasm32-unknown-unknown", is_proved=True),
-    Target("aarch64-unknown-linux-gnu"),
-    Target("armv7-unknown-linux-gnueabihf"),
-    Target("x86_64-pc-windows-msvc"),
-    Target("aarch64-apple-darwin"),
 )
 
 
@@ -237,7 +237,7 @@ def main() -> int:
     try:
         with tempfile.TemporaryDirectory() as room:
             machine = Machine(Path(room))
-            print(run("rustc", "--version").strip())
+            print(run("rustc", "--version").strip(), flush=True)
             wrong = sum(show(it, machine) for it in chosen)
     except (Absent, Fault) as error:
         print(error, file=sys.stderr)
