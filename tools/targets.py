@@ -137,7 +137,8 @@ class Machine:
             run("dpkg", "-x", file, self.tree)
 
     def build_std(self, target: Target) -> None:
-        """Builds std, or `core` if no code of the target is run or proved."""
+        """Builds std, or `core` if no code of the target is run or proved. Where the C library is
+        static, no shared one is linked."""
         folder = self.room / "std"
         folder.mkdir(exist_ok=True)
         (folder / "lib.rs").touch()
@@ -148,7 +149,7 @@ class Machine:
         run(
             *"cargo build --release --offline --config vendor.toml --target-dir target".split(),
             *(f"--package={it}" for it in crates), where=folder, RUSTC_BOOTSTRAP="1",
-            RUSTFLAGS="-Zforce-unstable-if-unmarked -Cembed-bitcode=yes",
+            RUSTFLAGS="-Zforce-unstable-if-unmarked -Cembed-bitcode=yes -Ctarget-feature=+crt-static",
         )  # fmt: skip
         own = self.tree / "usr/lib/rustlib" / target.name / "lib"
         own.mkdir(parents=True)
