@@ -146,11 +146,10 @@ class Machine:
         (folder / "vendor.toml").write_text(VENDOR.format(library=self.library))
         is_whole = target.compiler or target.is_proved
         crates = ("std", "test") if is_whole else ("core", "compiler_builtins")
-        run(
-            *"cargo build --release --offline --config vendor.toml --target-dir target".split(),
-            *(f"--package={it}" for it in crates), where=folder, RUSTC_BOOTSTRAP="1",
-            RUSTFLAGS="-Zforce-unstable-if-unmarked -Cembed-bitcode=yes -Ctarget-feature=+crt-static",
-        )  # fmt: skip
+        build = "cargo build --release --offline --config vendor.toml --target-dir target".split()
+        build += [f"--package={it}" for it in crates]
+        flags = "-Zforce-unstable-if-unmarked -Cembed-bitcode=yes -Ctarget-feature=+crt-static"
+        run(*build, where=folder, RUSTC_BOOTSTRAP="1", RUSTFLAGS=flags)
         own = self.tree / "usr/lib/rustlib" / target.name / "lib"
         own.mkdir(parents=True)
         for file in (folder / "target" / target.name / "release/deps").glob("*.rlib"):

@@ -26,6 +26,9 @@ udiv i32 %x, %y | udiv i32 %x, 7
 udiv exact i32 %x, 7 | udiv i32 %x, 1
 sdiv i32 %x, -1 | sdiv i32 %x, -2
 srem i32 %x, -1 | srem i32 %x, 3
+%a = lshr i32 %y, 2; %b = add i32 %a, 1; %q = sdiv i32 %x, %b; sub nuw i32 %x, %q | \
+%a = lshr i32 %y, 2; %b = add i32 %a, 1; %c = lshr i32 %x, 1; %q = sdiv i32 %c, %b; \
+sub nuw i32 %c, %q
 select i1 true, i32 poison, i32 %x | select i1 false, i32 poison, i32 %x
 add i32 undef, %x | freeze i32 undef
 call i32 @llvm.abs.i32(i32 %x, i1 true) | call i32 @llvm.abs.i32(i32 %x, i1 false)
