@@ -149,7 +149,10 @@ class Machine:
         build = "cargo build --release --offline --config vendor.toml --target-dir target".split()
         build += [f"--package={it}" for it in crates]
         flags = "-Zforce-unstable-if-unmarked -Cembed-bitcode=yes -Ctarget-feature=+crt-static"
-        run(*build, where=folder, RUSTC_BOOTSTRAP="1", RUSTFLAGS=flags)
+        run(
+            *build, where=folder, RUSTC_BOOTSTRAP="1", RUSTFLAGS=flags,
+            CARGO_PROFILE_RELEASE_OPT_LEVEL="3" if is_whole else "0",
+        )  # fmt: skip
         own = self.tree / "usr/lib/rustlib" / target.name / "lib"
         own.mkdir(parents=True)
         for file in (folder / "target" / target.name / "release/deps").glob("*.rlib"):
