@@ -87,7 +87,7 @@ class Machine:
     ) -> Iterator[End]:
         """Yields the 128 bits that a function stores where its first argument says (`sret`)."""
         place, room = Address(self.name("%result"), constant(0)), Cells((None,) * 16, 16)
-        of_place = {**memory, str(place.object): room}
+        of_place: Objects = {**memory, str(place.object): room}
         for end in self.run(name, [place, *arguments], of_place, conditions):
             state = State("", 0, "", {}, end.memory, end.conditions, {})
             yield end._replace(value=self.memory.load("i128", place, 16, state))
