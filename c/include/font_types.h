@@ -112,10 +112,10 @@
 #endif
 
 /** The version of this header. */
-#define FTY_VERSION "0.11.0"
+#define FTY_VERSION "0.12.0"
 
 /** The same as a number, major << 16 | minor << 8 | patch: later versions are greater. */
-#define FTY_VERSION_NUMBER 0x000B00
+#define FTY_VERSION_NUMBER 0x000C00
 
 /** @cond */
 #ifdef __cplusplus

@@ -9,6 +9,8 @@ ghost use Rattle.variations.specs.Variations.{region_index_count, region_index, 
 
 use font_types::Scalar;
 
+// The layout of a set is that of `delta_set.rt` of font_c too. DECISIONS says why it is there twice.
+
 // The parts of `wordDeltaCount`.
 const LONG_WORDS: u16 = 0x8000;
 

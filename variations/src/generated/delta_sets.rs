@@ -7,6 +7,8 @@ use crate::definitions::variations::Variations_antt::{HasRow, row_bytes, word_de
 
 use font_types_proved::Scalar;
 
+// The layout of a set is that of `delta_set.rt` of font_c too. DECISIONS says why it is there twice.
+
 // The parts of `wordDeltaCount`.
 const LONG_WORDS: u16 = 0x8000;
 
