@@ -505,7 +505,7 @@ pub struct Avar<'a> {
 
 impl<'a> Avar<'a> {
     /// Returns the table that begins at these bytes, or `None` if its major version is not 1, or it
-    /// ends before its header does. Takes `None` for a font without the table.
+    /// ends before its header does. Takes `None` for a font without the table, and maps nothing.
     #[must_use]
     pub fn new(bytes: Option<&'a [u8]>) -> Option<Avar<'a>>
         ensures variant { IsSome result ↔ IfSome bytes.entry (λ bytes. IsAvar bytes.now) }

@@ -491,7 +491,7 @@ pub struct Avar<'a> {
 
 impl<'a> Avar<'a> {
     /// Returns the table that begins at these bytes, or `None` if its major version is not 1, or it
-    /// ends before its header does. Takes `None` for a font without the table.
+    /// ends before its header does. Takes `None` for a font without the table, and maps nothing.
     ///
     /// <details><summary>Contract</summary>
     ///

@@ -94,8 +94,8 @@ impl<'a> ItemVariationStore<'a> {
     }
 
     /// Computes the scalars of all regions at these coordinates into the first places of `scalars`,
-    /// and keeps the rest. Returns `None` if there are more regions than `scalars` holds; then
-    /// `scalars` is as before.
+    /// and keeps the rest. Axes beyond the coordinates are at their default, and with `&[]` all are.
+    /// Returns `None` if there are more regions than `scalars` holds; then `scalars` is as before.
     ///
     /// <details><summary>Contract</summary>
     ///
@@ -121,7 +121,7 @@ impl<'a> ItemVariationStore<'a> {
     }
 
     /// Varies an advance by a set at these coordinates, as [`StoreInstance::vary`] does, but without
-    /// a buffer.
+    /// a buffer. Axes beyond the coordinates are at their default, and with `&[]` all are.
     ///
     /// It walks all axes of the region of each column of the set, so the time is that of all axes
     /// times all columns, whatever the number of coordinates. For more than one advance, and for an

@@ -44,7 +44,8 @@ fn axis_records() -> Result<(), Fail> {
     Ok(())
 }
 
-// The coordinate of a value on the axis with this range.
+// The coordinate of a value on the axis with this range. That it is from -1 to 1 is proved by what
+// `coordinates` promises of each.
 fn coordinate_of(range: [Fixed; 3], value: Fixed, avar: Option<&[u8]>) -> Option<F2Dot14> {
     let (mut fvar, [min, default, max]) = (FVAR, range);
     min.write_at(&mut fvar, 21)?;

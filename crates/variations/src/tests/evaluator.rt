@@ -1,5 +1,8 @@
 //! An evaluator of variations: what `variations/tests` does not see.
 
+ghost use Rattle.std.specs.Prelude.{IfSome};
+ghost use Rattle.variations.specs.Evaluator.{IsWithinOne};
+
 use crate::{Avar, CoordinatesError, Fvar, Setting, VariationAxisRecord};
 use font_types::{F2Dot14, Fixed, NameId, Scalar, Tag};
 use std::test::Fail;
@@ -45,8 +48,11 @@ fn axis_records(rt: HostRuntime) -> Result<(), Fail> {
     Ok(())
 }
 
-// The coordinate of a value on the axis with this range.
-fn coordinate_of(range: [Fixed; 3], value: Fixed, avar: Option<&[u8]>) -> Option<F2Dot14> {
+// The coordinate of a value on the axis with this range. That it is from -1 to 1 is proved by what
+// `coordinates` promises of each.
+fn coordinate_of(range: [Fixed; 3], value: Fixed, avar: Option<&[u8]>) -> Option<F2Dot14>
+    ensures { IfSome result IsWithinOne }
+{
     let (mut fvar, [min, default, max]) = (FVAR, range);
     min.write_at(&mut fvar, 21)?;
     default.write_at(&mut fvar, 25)?;
