@@ -113,6 +113,8 @@ class Machine:
         self.apt("update")
         self.unpack(RUST)
         self.library = self.tree / "usr/lib/rustlib/src/rust/library"
+        if not (self.tree / "usr/bin/rustc").exists():
+            raise Absent("rustc-web is installed, so that no folder of its own can have it")
         os.environ["PATH"] = f"{self.tree}/usr/bin:{os.environ['PATH']}"
         os.environ["LD_LIBRARY_PATH"] = f"{self.tree}/usr/lib/x86_64-linux-gnu"
         for it in ("CARGO_BUILD_TARGET", "CARGO_TARGET_DIR"):
