@@ -14,7 +14,7 @@ use Rattle.font_types.proofs.Ratios.{ratio_calls}
 use Rattle.font_types.proofs.Narrowed.{exact_narrow_calls, exact_sum_is_integral, negation_is_integral}
 use Rattle.font_types.proofs.{Searches.search_calls, StoredBytes.stored_calls, ShortProducts.short_product_calls}
 use Rattle.font_types.proofs.{ArrayNumbers.array_number_calls, Below.below_calls, Writes.write_calls}
-use Rattle.font_types.proofs.Fields.{field_calls, record_calls}
+use Rattle.font_types.proofs.Fields.{field_calls, record_calls, header_calls}
 pub use Rattle.font_base.proofs.ScalarCalls.{absent, nowhere, rises_by}
 pub use Rattle.font_base.proofs.Moved.{bytes_moved}
 pub use Rattle.font_base.specs.Wrap.Laws.{wrap_is, wrap_unique, wrap-fits}
@@ -39,32 +39,51 @@ pub use Rattle.font_geom.proofs.RingCalls
 pub use Rattle.font_geom.proofs.RingMatrices
 pub use Rattle.font_types.proofs.SumCalls.{running_total, running_total_from}
 pub use Rattle.font_tags.proofs.VersionText.{hex_padded}
-pub use Rattle.font_types.proofs.Parts.{quotient_of_widened}
+-- for a clause that starts at the second field of a record, by the sizes of both fields; and for what stands behind so
+-- many bytes, such as an array behind its count
+pub use Rattle.font_types.proofs.Fields.{second_1_1, second_1_2, second_1_3, second_1_4, second_1_8, behind_1}
+pub use Rattle.font_types.proofs.Fields.{second_2_1, second_2_2, second_2_3, second_2_4, second_2_8, behind_2}
+pub use Rattle.font_types.proofs.Fields.{second_3_1, second_3_2, second_3_3, second_3_4, second_3_8, behind_3}
+pub use Rattle.font_types.proofs.Fields.{second_4_1, second_4_2, second_4_3, second_4_4, second_4_8, behind_4}
+pub use Rattle.font_types.proofs.Fields.{second_8_1, second_8_2, second_8_3, second_8_4, second_8_8, behind_8}
 pub use Rattle.font_types.specs.Json.Laws.{fixed_form, signed_form, unsigned_form, tag_form, version_form_of}
 
--- numbers that fit, sums with 0, products with 0 and 1, quotients, and `mul_div`
-pub ruleset numbers = (fixed_calls, calls_16, calls_64)
-
--- integers, and numbers that are widened or narrowed
-pub ruleset conversions = (integral_calls, exact_sum_is_integral, narrow_calls, quarter_neg_one)
-
--- scalars, records, arrays and searches
-pub ruleset arrays = (scalar_calls, search_calls, stored_calls, array_number_calls, field_calls)
-
--- sums of loops
-pub ruleset sums = (sum_calls_from, sum_calls_16, sum_calls_32, delta_rules, below_calls)
-
--- bounds of products: of font units, small integers, bounded matrices and scales
-pub ruleset bounds = (short_product_calls, bound_calls, unit_calls, scaled_calls)
-
--- products by a number from 0 to 1, and numbers between two others
-pub ruleset parts = (part_calls, between_calls)
-
--- tags, versions and the text of a number
-pub ruleset texts = (tag_calls, compatible_calls, shortest_is)
-
 -- the rules by which functions of callers prove
-pub ruleset calls = (numbers, conversions, arrays, sums, bounds, parts, texts)
+pub ruleset calls = (
+  -- numbers that fit, sums with 0, products with 0 and 1, quotients, and `mul_div`
+  fixed_calls,
+  calls_16,
+  calls_64,
+  -- integers, and numbers that are widened or narrowed
+  integral_calls,
+  exact_sum_is_integral,
+  narrow_calls,
+  quarter_neg_one,
+  -- scalars, records, arrays and searches
+  scalar_calls,
+  search_calls,
+  stored_calls,
+  array_number_calls,
+  field_calls,
+  -- sums of loops
+  sum_calls_from,
+  sum_calls_16,
+  sum_calls_32,
+  delta_rules,
+  below_calls,
+  -- bounds of products: of font units, small integers, bounded matrices and scales
+  short_product_calls,
+  bound_calls,
+  unit_calls,
+  scaled_calls,
+  -- products by a number from 0 to 1, and numbers between two others
+  part_calls,
+  between_calls,
+  -- tags, versions and the text of a number
+  tag_calls,
+  compatible_calls,
+  shortest_is,
+)
 
 -- for the value of `a + (b - a) * t`, as one formula; of `(x - p) / (q - p)`; and of `mul_div` by such a quotient
 pub ruleset lerps = (lerp_calls, ratio_calls)
@@ -87,3 +106,6 @@ pub ruleset writes = (write_calls)
 
 -- for a record that is encoded and decoded, in place of `calls`
 pub ruleset records = (record_calls)
+
+-- for a header of four fields of 4 bytes that is encoded, or encoded and decoded, in place of `calls`
+pub ruleset headers = (header_calls)

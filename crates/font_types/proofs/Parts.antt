@@ -313,6 +313,7 @@ pub ruleset lerp_calls = (
   fits_given,
   near_by_widened,
   near_of_widened,
+  quotient_of_widened,
   wrapped_left_32,
   wrapped_right_32,
   wrapped_left_64,
