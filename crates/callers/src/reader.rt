@@ -1,7 +1,7 @@
 //! A reader of tables: vertical origins, in `VORG`.
 
-ghost use Rattle.std.specs.Prelude.{◌≡◌, ◌↔◌, ◌≤◌, ◌<◌, ◌+◌, ◌^◌, ◌&&◌, ◌++◌, pos, nat_lt, refl};
-ghost use Rattle.std.specs.Prelude.{IsSome, IfSome, MatchOption, Some, ℕ, length, take, drop};
+ghost use Rattle.std.specs.Prelude.{◌≡◌, ◌↔◌, ◌≤◌, ◌<◌, ◌+◌, ◌*◌, ◌^◌, ◌&&◌, ◌++◌, pos, nat_lt, refl};
+ghost use Rattle.std.specs.Prelude.{IsSome, IfSome, MatchOption, Some, ℕ, length, take, drop, true};
 ghost use Rattle.std.specs.Ordering.{nat_cmp};
 ghost use Rattle.std.proofs.Common.{lit<};
 ghost use Rattle.font_types.specs.Bytes.{numeral, signed_numeral, bytes_of};
@@ -10,10 +10,13 @@ ghost use Rattle.font_types.specs.FWord.{fword_number, fword_of};
 ghost use Rattle.font_types.specs.GlyphId.{glyph16_number, glyph16_of};
 ghost use Rattle.font_types.specs.Array.{IsSearched, array_len, element_bytes};
 ghost use Rattle.font_types.specs.{Records.record_laws, Wrap.fits_bits};
-ghost use Rattle.callers.specs.Reader.{metrics_bytes};
+ghost use Rattle.font_types.specs.{Tag.tag_bytes, Fixed.fixed_bits, Uint24.Laws.uint24_laws};
+ghost use Rattle.font_types.specs.Uint24.{uint24_of_bytes, bytes_of_uint24};
+ghost use Rattle.callers.specs.Reader.{metrics_bytes, range_bytes};
 
 use font_types::{
-    BigEndian, FWord, FixedSize, GlyphId16, Scalar, ScalarArray, TableDataRef, TableHeader,
+    BigEndian, FWord, Fixed, FixedSize, GlyphId16, Scalar, ScalarArray, TableDataRef, TableHeader,
+    Tag, Uint24,
 };
 
 /// Reads bytes by offset and length: those of a table, or `None` if the font ends before them.
@@ -139,6 +142,88 @@ pub fn written_origin(vorg: &mut [u8], at: usize, origin: GlyphOrigin) -> Option
     GlyphOrigin::read_at(vorg, at)
 }
 
+/// Reads a field of a record where it stands: the vertical origin at an index of `VORG`.
+///
+/// The lemma `second_2_2` is for a second field of 2 bytes, after a first field of 2 bytes.
+#[tactic(auto, using(font_types::proofs::Callers::calls, font_types::proofs::Callers::second_2_2))]
+pub fn origin_at(vorg: &[u8], index: u16) -> Option<FWord>
+    ensures { IfSome result (λ origin. fword_number origin
+        ≡ signed_numeral 2 (take 2 (drop (8 + index * 4 + 2) vorg.now))) }
+{
+    Some(GlyphOrigin::read_at(vorg, 8 + usize::from(index) * 4)?.origin)
+}
+
+/// Takes an array after its count: 32-bit numbers, or `None` if the list ends before they do.
+///
+/// The lemma `behind_2` is for what stands behind a count of 2 bytes.
+#[tactic(auto, using(font_types::proofs::Callers::calls, font_types::proofs::Callers::behind_2))]
+pub fn counted_numbers(list: &[u8]) -> Option<ScalarArray<'_, u32>>
+    ensures variant { IsSome result
+        ↔ ((2 ≤ length list.now) × (2 + numeral (take 2 list.now) * 4 ≤ length list.now)) }
+    ensures len { IfSome result (λ array. array_len array ≡ numeral (take 2 list.now)) }
+    ensures elements { IfSome result (λ array. (i : ℕ) → i < numeral (take 2 list.now)
+        → element_bytes array i ≡ take 4 (drop (2 + i * 4) list.now)) }
+{
+    let mut rest = list;
+    let count = u16::take_from(&mut rest)?;
+    ScalarArray::take_from(&mut rest, usize::from(count))
+}
+
+/// A record with a 24-bit field: a character of `cmap`, and its glyph in a variation sequence.
+#[derive(Clone, Copy)]
+pub struct Variant {
+    pub character: Uint24,
+    pub glyph: GlyphId16,
+}
+
+impl FixedSize for Variant {
+    const RAW_BYTE_LEN: usize = 5;
+
+    ghost RAW_BYTE_LEN = { 5 };
+}
+
+impl Scalar for Variant {
+    type Raw = [u8; 5];
+
+    ghost is_scalar = { λ pair. true && nat_lt (glyph16_number pair.glyph) (2 ^ 16) };
+
+    ghost of_raw = { λ raw. record {
+      character = uint24_of_bytes (take 3 raw);
+      glyph = glyph16_of (numeral (drop 3 raw));
+    } };
+
+    ghost raw_of = { λ pair. bytes_of_uint24 pair.character
+        ++ bytes_of 2 (pos (glyph16_number pair.glyph)) };
+
+    ghost laws = { record_laws 3 2 (λ pair. pair.character) (λ pair. pair.glyph)
+        (λ character glyph. record { character = character; glyph = glyph })
+        (λ _ _. refl) (λ _ _. refl) (λ _. refl)
+        uint24_laws
+        (unsigned_newtype 2 glyph16_number glyph16_of (λ _. refl) (λ _. refl)) };
+
+    fn from_raw(raw: [u8; 5]) -> Variant {
+        Variant {
+            character: Uint24::read(&raw[..3]).unwrap(),
+            glyph: GlyphId16::read(&raw[3..]).unwrap(),
+        }
+    }
+
+    fn to_raw(self) -> [u8; 5] {
+        let [a, b, c] = self.character.to_raw();
+        let [d, e] = self.glyph.to_raw();
+        [a, b, c, d, e]
+    }
+}
+
+/// Writes a record and reads it, whose fields have other sizes: itself, or `None` without room.
+#[tactic(auto, using(font_types::proofs::Callers::records))]
+pub fn written_variant(cmap: &mut [u8], at: usize, variant: Variant) -> Option<Variant>
+    ensures { IfSome result (λ read. read ≡ variant) }
+{
+    variant.write_at(cmap, at)?;
+    Variant::read_at(cmap, at)
+}
+
 /// Three fields of `hhea`.
 #[derive(Clone, Copy, PartialEq, Eq)]
 pub struct LineMetrics {
@@ -180,4 +265,52 @@ pub fn metrics_again(metrics: LineMetrics) -> Option<LineMetrics>
     ensures { result ≡ Some metrics }
 {
     decode_metrics(&encode_metrics(metrics))
+}
+
+/// Four fields of 4 bytes: an axis of `fvar`, without its flags and its name.
+#[derive(Clone, Copy, PartialEq, Eq)]
+pub struct AxisRange {
+    pub tag: Tag,
+    pub min: Fixed,
+    pub default: Fixed,
+    pub max: Fixed,
+}
+
+/// Encodes four fields of 4 bytes: the bytes of each.
+#[tactic(auto, using(font_types::proofs::Callers::headers))]
+pub fn encode_range(axis: AxisRange) -> [u8; 16]
+    ensures { result ≡ range_bytes axis }
+{
+    let [a, b, c, d] = axis.tag.to_raw();
+    let [e, f, g, h] = axis.min.to_raw();
+    let [i, j, k, l] = axis.default.to_raw();
+    let [m, n, o, p] = axis.max.to_raw();
+    [a, b, c, d, e, f, g, h, i, j, k, l, m, n, o, p]
+}
+
+/// Decodes four fields: the number of each, or `None` for under 16 bytes.
+pub fn decode_range(bytes: &[u8]) -> Option<AxisRange>
+    ensures variant { IsSome result ↔ (16 ≤ length bytes.now) }
+    ensures tag { IfSome result (λ axis. tag_bytes axis.tag ≡ take 4 bytes.now) }
+    ensures min { IfSome result (λ axis.
+        fixed_bits axis.min ≡ signed_numeral 4 (take 4 (drop 4 bytes.now))) }
+    ensures default { IfSome result (λ axis.
+        fixed_bits axis.default ≡ signed_numeral 4 (take 4 (drop 8 bytes.now))) }
+    ensures max { IfSome result (λ axis.
+        fixed_bits axis.max ≡ signed_numeral 4 (take 4 (drop 12 bytes.now))) }
+{
+    Some(AxisRange {
+        tag: Tag::read_at(bytes, 0)?,
+        min: Fixed::read_at(bytes, 4)?,
+        default: Fixed::read_at(bytes, 8)?,
+        max: Fixed::read_at(bytes, 12)?,
+    })
+}
+
+/// Encodes four fields of 4 bytes and decodes them: themselves.
+#[tactic(auto, using(font_types::proofs::Callers::headers))]
+pub fn range_again(axis: AxisRange) -> Option<AxisRange>
+    ensures { result ≡ Some axis }
+{
+    decode_range(&encode_range(axis))
 }

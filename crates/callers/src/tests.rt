@@ -2,10 +2,13 @@
 
 use crate::dumper::{Axis, row};
 use crate::linter::{BadTag, validate};
-use crate::reader::{Origins, origin_index};
+use crate::reader::{
+    AxisRange, Origins, Variant, counted_numbers, decode_range, encode_range, origin_at,
+    origin_index,
+};
 use crate::start::advance_at;
 use font_types::JsonFault::{InvalidTag, MissingMember, Syntax};
-use font_types::{FWord, Fixed, GlyphId16, NameId, ScalarArray, TableDataRef, Tag};
+use font_types::{FWord, Fixed, GlyphId16, NameId, Scalar, ScalarArray, TableDataRef, Tag, Uint24};
 use serde_json::Value;
 use std::test::Fail;
 
@@ -51,6 +54,7 @@ fn vertical_origins(rt: HostRuntime) -> Result<(), Fail> {
         assert!(rt; origin_index(&origins, GlyphId16::new(glyph)) == index);
     }
     assert!(rt; origins.get(1).map(|record| record.origin) == Some(FWord::new(-2)));
+    assert!(rt; origin_at(&vorg, 1) == Some(FWord::new(-2)) && origin_at(&vorg, 2) == None);
     Ok(())
 }
 
@@ -59,4 +63,34 @@ fn first_metrics(rt: HostRuntime) {
     let hmtx = [2, 0, 0, 10, 1, 0, 0xFF, 0xFF, 0, 7];
     assert!(rt; advance_at(&hmtx, 1).map(|word| word.to_u16()) == Some(256));
     assert!(rt; advance_at(&hmtx, 2).map(|word| word.to_u16()) == Some(7));
+}
+
+// The weight from 100 to 900, by default 400.
+#[test]
+fn weight_axis(rt: HostRuntime) {
+    let fvar = *b"wght\x00\x64\x00\x00\x01\x90\x00\x00\x03\x84\x00\x00";
+    let [min, default, max] = [100, 400, 900].map(Fixed::from_i32);
+    let tag = Tag::new(b"wght");
+    let axis = AxisRange {
+        tag,
+        min,
+        default,
+        max,
+    };
+    assert!(rt; encode_range(axis) == fvar && decode_range(&fvar) == Some(axis));
+}
+
+// U+4E08 is glyph 7 in the variation sequence.
+#[test]
+fn variant_glyph(rt: HostRuntime) {
+    let variant = Variant::read(&[0, 0x4E, 0x08, 0, 7]);
+    assert!(rt; variant.map(|pair| pair.character) == Some(Uint24::new(0x4E08)));
+    assert!(rt; variant.map(|pair| pair.glyph) == Some(GlyphId16::new(7)));
+}
+
+#[test]
+fn numbers_after_their_count(rt: HostRuntime) {
+    let numbers = counted_numbers(&[0, 2, 0, 0, 0, 1, 0, 0, 1, 0]);
+    assert!(rt; numbers.and_then(|numbers| numbers.get(1)) == Some(256));
+    assert!(rt; counted_numbers(&[0, 2, 0, 0, 0, 1]).is_none());
 }
