@@ -9,8 +9,9 @@ from pathlib import Path
 
 # Without optimizations of MIR, which are trusted as LLVM is.
 FLAGS = "--emit=mir -Cpanic=abort -Coverflow-checks=off -Zmir-opt-level=0 -Zinline-mir=no".split()
-FLAGS.append("-Ztrim-diagnostic-paths=no")
-ENVIRONMENT = {"RUSTC_BOOTSTRAP": "1", "RUSTFLAGS": "--cap-lints=allow"}
+FLAGS += ["-Ztrim-diagnostic-paths=no", "--cap-lints=allow"]
+# Cargo reads a warning by which rustc says which kinds of crates a target has not.
+ENVIRONMENT = {"RUSTC_BOOTSTRAP": "1", "RUSTFLAGS": ""}
 
 # What cargo compiles: a package, a target of it, the folder of erased crates, and their module.
 PACKAGES = (

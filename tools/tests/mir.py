@@ -132,7 +132,7 @@ def differing(room: pathlib.Path, source: str) -> tuple[set[str], list[str]]:
     source += DEFAULT
     (room / "attacks.rs").write_text(source)
     (room / "lib.rs").write_text(ROOT_FILE)
-    rustc = "rustc --edition=2024 --crate-type=lib --cap-lints=allow".split()
+    rustc = "rustc --edition=2024 --crate-type=lib".split()
     subprocess.run([*rustc, *FLAGS, "lib.rs"], cwd=room, check=True, env=os.environ | ENVIRONMENT)
     mir = as_in_library((room / "lib.mir").read_text())
     lines = {"attacks.rs": source.split("\n")}
