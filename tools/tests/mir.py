@@ -179,7 +179,8 @@ class Mir(unittest.TestCase):
                 text=types.SimpleNamespace(values={}), enum=lambda _: None, operand=lambda it: it
             )
             body.type_of = lambda _, of=of: of
-            with self.assertRaises(ValueError) if is_wide else contextlib.nullcontext():
+            refused: Any = self.assertRaises(ValueError) if is_wide else contextlib.nullcontext()
+            with refused:
                 rust.Body.casted(body, "copy _1", "usize (IntToInt)")
 
     def test_wrong_rust(self) -> None:
