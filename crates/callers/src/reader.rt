@@ -216,7 +216,7 @@ impl Scalar for Variant {
 }
 
 /// Writes a record and reads it, whose fields have other sizes: itself, or `None` without room.
-#[tactic(auto, using(font_types::proofs::Callers::records))]
+#[tactic(auto, using(font_types::proofs::Callers::records_1_3_8))]
 pub fn written_variant(cmap: &mut [u8], at: usize, variant: Variant) -> Option<Variant>
     ensures { IfSome result (λ read. read ≡ variant) }
 {

@@ -14,7 +14,7 @@ use Rattle.font_types.proofs.Ratios.{ratio_calls}
 use Rattle.font_types.proofs.Narrowed.{exact_narrow_calls, exact_sum_is_integral, negation_is_integral}
 use Rattle.font_types.proofs.{Searches.search_calls, StoredBytes.stored_calls, ShortProducts.short_product_calls}
 use Rattle.font_types.proofs.{ArrayNumbers.array_number_calls, Below.below_calls, Writes.write_calls}
-use Rattle.font_types.proofs.Fields.{field_calls, record_calls, header_calls}
+use Rattle.font_types.proofs.Fields.{field_calls, record_calls, other_record_calls, header_calls}
 pub use Rattle.font_base.proofs.ScalarCalls.{absent, nowhere, rises_by}
 pub use Rattle.font_base.proofs.Moved.{bytes_moved}
 pub use Rattle.font_base.specs.Wrap.Laws.{wrap_is, wrap_unique, wrap-fits}
@@ -106,6 +106,9 @@ pub ruleset writes = (write_calls)
 
 -- for a record that is encoded and decoded, in place of `calls`
 pub ruleset records = (record_calls)
+
+-- for a record with a field of 1, 3 or 8 bytes, in place of `calls`
+pub ruleset records_1_3_8 = (other_record_calls)
 
 -- for a header of four fields of 4 bytes that is encoded, or encoded and decoded, in place of `calls`
 pub ruleset headers = (header_calls)

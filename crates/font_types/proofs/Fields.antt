@@ -76,6 +76,8 @@ IsBehind k = (m : ℕ) (bytes : List ℕ) → drop m (drop k bytes) ≡ drop (k 
 behind : (k : ℕ) → IsBehind k
 behind k m bytes = drop-drop m k bytes
 
+-- their instances
+
 pub front_1 : IsFront 1
 front_1 = front 1
 
@@ -111,9 +113,6 @@ unsigned_field_1 = unsigned_field 1
 
 pub unsigned_field_3 : IsUnsignedField 3
 unsigned_field_3 = unsigned_field 3
-
-pub unsigned_field_8 : IsUnsignedField 8
-unsigned_field_8 = unsigned_field 8
 
 pub signed_field_1 : IsSignedField 1
 signed_field_1 = signed_field 1 (lit< tt)
@@ -275,9 +274,12 @@ pub ruleset field_calls = (
   signed_field_4,
 )
 
--- those, those of the other sizes, and the numbers of fields
-pub ruleset record_calls = (
-  field_calls,
+-- those, and the numbers of fields
+pub ruleset record_calls = (field_calls, numeral_of_2, numeral_of_4, signed_of_2, signed_of_4)
+
+-- those, and the same of fields of 1, 3 and 8 bytes
+pub ruleset other_record_calls = (
+  record_calls,
   front_1,
   front_3,
   front_8,
@@ -286,16 +288,11 @@ pub ruleset record_calls = (
   whole_8,
   unsigned_field_1,
   unsigned_field_3,
-  unsigned_field_8,
   signed_field_1,
   signed_field_3,
   signed_field_8,
   uint24_field,
   int24_field,
-  numeral_of_2,
-  numeral_of_4,
-  signed_of_2,
-  signed_of_4,
 )
 
 -- a header of four fields of 4 bytes
