@@ -1,12 +1,14 @@
 //! A reader of tables: vertical origins, in `VORG`.
 
-ghost use Rattle.std.specs.Prelude.{◌≡◌, ◌↔◌, ◌≤◌, ◌<◌, ◌+◌, ◌*◌, ◌^◌, ◌&&◌, ◌++◌, pos, nat_lt, refl};
-ghost use Rattle.std.specs.Prelude.{IsSome, IfSome, MatchOption, Some, ℕ, length, take, drop, true};
+ghost use Rattle.std.specs.Prelude.{◌≡◌, ◌↔◌, ◌≤◌, ◌<◌, ◌+◌, ◌*◌, ◌^◌, ◌&&◌, ◌++◌, pos, nat_lt};
+ghost use Rattle.std.specs.Prelude.{IsSome, IfSome, MatchOption, Some, ℕ, length, take, drop};
+ghost use Rattle.std.specs.Prelude.{true, refl};
 ghost use Rattle.std.specs.Ordering.{nat_cmp};
 ghost use Rattle.std.proofs.Common.{lit<};
 ghost use Rattle.font_types.specs.Bytes.{numeral, signed_numeral, bytes_of};
 ghost use Rattle.font_types.specs.Scalar.Laws.{unsigned_newtype, signed_newtype};
-ghost use Rattle.font_types.specs.FWord.{fword_number, fword_of};
+ghost use Rattle.std.specs.List.{flat_map};
+ghost use Rattle.font_types.specs.FWord.{fword_number, fword_of, ufword_number};
 ghost use Rattle.font_types.specs.GlyphId.{glyph16_number, glyph16_of};
 ghost use Rattle.font_types.specs.Array.{IsSearched, array_len, element_bytes};
 ghost use Rattle.font_types.specs.{Records.record_laws, Wrap.fits_bits};
@@ -16,7 +18,7 @@ ghost use Rattle.callers.specs.Reader.{metrics_bytes, range_bytes};
 
 use font_types::{
     BigEndian, FWord, Fixed, FixedSize, GlyphId16, Scalar, ScalarArray, TableDataRef, TableHeader,
-    Tag, Uint24,
+    Tag, UfWord, Uint24,
 };
 
 /// Reads bytes by offset and length: those of a table, or `None` if the font ends before them.
@@ -222,6 +224,42 @@ pub fn written_variant(cmap: &mut [u8], at: usize, variant: Variant) -> Option<V
 {
     variant.write_at(cmap, at)?;
     Variant::read_at(cmap, at)
+}
+
+/// Writes a part of a table, at an offset: an advance width, and the offset after it.
+///
+/// The clause `after` is of each place from there on.
+#[tactic(auto, using(font_types::proofs::Callers::calls, font_types::proofs::Callers::writes))]
+fn put_advance(hmtx: &mut [u8], at: usize, advance: UfWord) -> usize
+    requires { at + 2 ≤ length hmtx.old }
+    ensures offset { result ≡ at + 2 }
+    ensures len { length hmtx.new ≡ length hmtx.old }
+    ensures bytes { take result hmtx.new
+        ≡ take at hmtx.old ++ bytes_of 2 (pos (ufword_number advance)) }
+    ensures after { (m : ℕ) → at + 2 ≤ m → drop m hmtx.new ≡ drop m hmtx.old }
+{
+    let end = at + 2;
+    hmtx[at..end].copy_from_slice(&advance.to_be_bytes());
+    end
+}
+
+/// Writes the elements of a slice, one after another: advance widths, or `None` without room.
+pub fn put_advances(hmtx: &mut [u8], advances: &[UfWord]) -> Option<usize>
+    ensures variant { IsSome result ↔ (length advances.now * 2 ≤ length hmtx.old) }
+    ensures len { IfSome result (λ n. n ≡ length advances.now * 2) }
+    ensures bytes { IfSome result (λ n. take n hmtx.new
+        ≡ flat_map (λ advance. bytes_of 2 (pos (ufword_number advance))) advances.now) }
+    ensures after { IfSome result (λ n. drop n hmtx.new ≡ drop n hmtx.old) }
+{
+    let len = advances.len().checked_mul(2)?;
+    if len > hmtx.len() {
+        return None;
+    }
+    let mut at = 0;
+    for advance in advances {
+        at = put_advance(hmtx, at, *advance);
+    }
+    Some(len)
 }
 
 /// Three fields of `hhea`.

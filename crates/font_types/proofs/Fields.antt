@@ -5,9 +5,11 @@ use Rattle.std.proofs.lemmas.List.{length-append, append-nil, take-append-le, ta
 use Rattle.std.proofs.lemmas.List.{drop-append-le, drop-take, drop-drop}
 use Rattle.std.proofs.lemmas.Map.Lookups.{exact_bytes}
 use Rattle.std.specs.Cmp.Lexicographic.{slice_cmp}
-use Rattle.font_base.specs.{Bytes.numeral, Bytes.bytes_of, Bytes.signed_numeral, Wrap.fits_bits, Wrap.Laws.fits_bits-true}
-use Rattle.font_base.specs.{declared.uint24.Uint24.Uint24, Uint24.uint24_number, Uint24.uint24_of, Uint24.Laws.uint24_laws}
-use Rattle.font_base.specs.{declared.int24.Int24.Int24, Int24.int24_number, Int24.int24_of, Int24.Laws.int24_laws}
+use Rattle.font_base.specs.{Bytes.numeral, Bytes.bytes_of, Bytes.signed_numeral, Wrap.fits_bits}
+use Rattle.font_base.specs.Wrap.Laws.{fits_bits-true}
+use Rattle.font_base.specs.{declared.uint24.Uint24.Uint24, Uint24.uint24_number, Uint24.uint24_of}
+use Rattle.font_base.specs.{declared.int24.Int24.Int24, Int24.int24_number, Int24.int24_of}
+use Rattle.font_base.specs.{Uint24.Laws.uint24_laws, Int24.Laws.int24_laws}
 use Rattle.font_types.proofs.ArrayNumbers.{numeral_of_2, numeral_of_4, signed_of_2, signed_of_4}
 use Rattle.font_base.specs.Bytes.Laws.{are_bytes-bytes_of, are_bytes-length, signed_numeral-bytes_of, unsigned_back}
 
@@ -26,7 +28,8 @@ pub same_bytes : (xs ys : List ℕ) → slice_cmp nat_cmp xs ys ≡ Equal
     → (slice_cmp nat_cmp xs ys ≡ slice_cmp nat_cmp xs ys) × (xs ≡ ys)
 same_bytes xs ys equal = (refl, exact_bytes xs ys equal)
 
--- ---- for each size of a field. `grind` computes `take` and `drop` of a numeral, so a lemma of a variable would not fit.
+-- ---- for each size of a field, because `grind` computes `take` and `drop` of a numeral, which a lemma of a variable
+-- does not fit
 
 -- the first bytes
 abbrev IsFront : ℕ → Type 0
