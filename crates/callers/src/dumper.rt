@@ -9,6 +9,7 @@ ghost use Rattle.serde_json.specs.{Data.object, Data.member, Data.no_members, Fi
 ghost use Rattle.font_types.specs.Tag.{tag_bytes, IsGood};
 ghost use Rattle.font_types.specs.{Fixed.fixed_text, Padding.padded_text};
 ghost use Rattle.font_types.specs.{Fixed.Fixed, Fixed.fixed_bits, Operations.ReadsBits};
+ghost use Rattle.font_types.specs.NumberReading.{ParsesFixedPoint};
 ghost use Rattle.callers.specs.declared.dumper.Axis.{Axis};
 ghost use Rattle.callers.specs.Dumper.{column, IsAxis, axis_form, ConvertsMember, ConvertsAxis};
 
@@ -68,6 +69,17 @@ pub fn value_of(line: &[u8]) -> Result<Fixed, DecimalFault>
 {
     let text = if line.len() < 5 { &[] } else { &line[5..] };
     Fixed::from_decimal_bytes(text)
+}
+
+/// Parses the rest of a line: the number after a label of five bytes, or why it is none.
+///
+/// The text of `&line[5..]` is stated by a length. The answer in `proofs/dumper/parsed_after` takes
+/// that away.
+pub fn parsed_after(line: &[u8]) -> Result<Fixed, DecimalFault>
+    requires { 5 ≤ length line.now }
+    ensures { ParsesFixedPoint w32 16 fixed_bits (drop 5 line.now) result }
+{
+    Fixed::from_decimal_bytes(&line[5..])
 }
 
 /// Writes a line and reads it back, which gives the value.
