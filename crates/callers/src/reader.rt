@@ -1,8 +1,8 @@
 //! A reader of tables: vertical origins, in `VORG`.
 
 ghost use Rattle.std.specs.Prelude.{◌≡◌, ◌↔◌, ◌≤◌, ◌<◌, ◌+◌, ◌*◌, ◌^◌, ◌&&◌, ◌++◌, pos, nat_lt};
-ghost use Rattle.std.specs.Prelude.{IsSome, IfSome, MatchOption, Some, ℕ, length, take, drop};
-ghost use Rattle.std.specs.Prelude.{true, refl};
+ghost use Rattle.std.specs.Prelude.{IsSome, IfSome, IfNone, MatchOption, Some, ℕ, length, take};
+ghost use Rattle.std.specs.Prelude.{drop, true, refl};
 ghost use Rattle.std.specs.Ordering.{nat_cmp};
 ghost use Rattle.std.proofs.Common.{lit<};
 ghost use Rattle.font_types.specs.Bytes.{numeral, signed_numeral, bytes_of};
@@ -250,6 +250,7 @@ pub fn put_advances(hmtx: &mut [u8], advances: &[UfWord]) -> Option<usize>
     ensures bytes { IfSome result (λ n. take n hmtx.new
         ≡ flat_map (λ advance. bytes_of 2 (pos (ufword_number advance))) advances.now) }
     ensures after { IfSome result (λ n. drop n hmtx.new ≡ drop n hmtx.old) }
+    ensures kept { IfNone result (hmtx.new ≡ hmtx.old) }
 {
     let len = advances.len().checked_mul(2)?;
     if len > hmtx.len() {
