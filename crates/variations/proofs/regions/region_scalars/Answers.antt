@@ -5,9 +5,6 @@ use Rattle.variations.specs.Variations.{HasRegion}
 use Rattle.variations.proofs.Stores.{are_scalars}
 use Rattle.variations.proofs.regions.region_scalars.Goals as goal
 
-pub returns-in_default-clause-within : goal.returns-in_default-clause-within
-returns-in_default-clause-within c = omega (arith, c.loop-region.invariant.0, c.loop-region.invariant.1)
-
 pub returns-in_default-clause-value : goal.returns-in_default-clause-value
 returns-in_default-clause-value c =
     let so_far = c.loop-region.invariant in
