@@ -202,9 +202,9 @@ impl<'a> Fvar<'a> {
     /// assert_eq!(found, Err(CoordinatesError::NoAxis(Tag::new(b"Wght"))));
     /// ```
     ///
-    /// OpenType allows an axis that is wider than 16.16 holds, such as one from -20000 to 20000. Its
-    /// values are not normalized, because the distances that are divided are numbers of 16.16, and
-    /// all of them fit only if `max - min` does.
+    /// OpenType allows an axis that is wider than 16.16 holds, such as one from -20000 to 20000.
+    /// Its values are not normalized, because the distances that are divided are numbers of 16.16,
+    /// and all of them fit only if `max - min` does.
     ///
     /// The time is linear in the length of `avar`, and in the number of axes times that of the
     /// settings.
@@ -212,15 +212,16 @@ impl<'a> Fvar<'a> {
     /// # Errors
     ///
     /// `Places` unless `coordinates` are as many as the axes. Else the error of the first axis that
-    /// has no coordinate: `NoRecord`, `NoMap` or `NoRange`. Else `NoAxis` of the first setting whose
-    /// tag no axis has. Then `coordinates` are as before.
+    /// has no coordinate: `NoRecord`, `NoMap` or `NoRange`. Else `NoAxis` of the first setting
+    /// whose tag no axis has. Then `coordinates` are as before.
     pub fn coordinates(
         &self,
         avar: &Avar<'_>,
         settings: &[Setting],
         coordinates: &mut [F2Dot14],
     ) -> Result<(), CoordinatesError>
-        ensures variant { IsOk result ↔ ((length coordinates.old ≡ fvar_axis_count self.now.bytes.now)
+        ensures variant { IsOk result
+            ↔ ((length coordinates.old ≡ fvar_axis_count self.now.bytes.now)
             × HaveCoordinates self.now.bytes.now (option_map (λ avar. avar.now) avar.now.bytes)
             × AreOfAxes self.now.bytes.now settings.now) }
         ensures error { IfErr result (λ error. IsCoordinatesError self.now.bytes.now
@@ -239,8 +240,8 @@ impl<'a> Fvar<'a> {
         Ok(())
     }
 
-    /// Computes the coordinates as [`coordinates`](Fvar::coordinates) does, but ignores each setting
-    /// whose tag no axis has.
+    /// Computes the coordinates as [`coordinates`](Fvar::coordinates) does, but ignores each
+    /// setting whose tag no axis has.
     ///
     /// This is for the settings of a text, which are given to each font of a list.
     ///
@@ -253,7 +254,8 @@ impl<'a> Fvar<'a> {
         settings: &[Setting],
         coordinates: &mut [F2Dot14],
     ) -> Result<(), CoordinatesError>
-        ensures variant { IsOk result ↔ ((length coordinates.old ≡ fvar_axis_count self.now.bytes.now)
+        ensures variant { IsOk result
+            ↔ ((length coordinates.old ≡ fvar_axis_count self.now.bytes.now)
             × HaveCoordinates self.now.bytes.now (option_map (λ avar. avar.now) avar.now.bytes)) }
         ensures error { IfErr result (λ error. IsAxesError self.now.bytes.now
             (option_map (λ avar. avar.now) avar.now.bytes) (length coordinates.old) error) }
@@ -677,7 +679,8 @@ fn write_coordinates(
     coordinates: &mut [F2Dot14],
 )
     requires len { length coordinates.old ≡ fvar_axis_count fvar.now.bytes.now }
-    requires all { HaveCoordinates fvar.now.bytes.now (option_map (λ avar. avar.now) avar.now.bytes) }
+    requires all { HaveCoordinates fvar.now.bytes.now
+        (option_map (λ avar. avar.now) avar.now.bytes) }
     ensures len { length coordinates.new ≡ length coordinates.old }
     ensures value { AreCoordinates fvar.now.bytes.now (option_map (λ avar. avar.now) avar.now.bytes)
         settings.now (length coordinates.new) coordinates.new }

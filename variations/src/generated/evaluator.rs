@@ -231,9 +231,9 @@ impl<'a> Fvar<'a> {
     /// assert_eq!(found, Err(CoordinatesError::NoAxis(Tag::new(b"Wght"))));
     /// ```
     ///
-    /// OpenType allows an axis that is wider than 16.16 holds, such as one from -20000 to 20000. Its
-    /// values are not normalized, because the distances that are divided are numbers of 16.16, and
-    /// all of them fit only if `max - min` does.
+    /// OpenType allows an axis that is wider than 16.16 holds, such as one from -20000 to 20000.
+    /// Its values are not normalized, because the distances that are divided are numbers of 16.16,
+    /// and all of them fit only if `max - min` does.
     ///
     /// The time is linear in the length of `avar`, and in the number of axes times that of the
     /// settings.
@@ -241,13 +241,14 @@ impl<'a> Fvar<'a> {
     /// # Errors
     ///
     /// `Places` unless `coordinates` are as many as the axes. Else the error of the first axis that
-    /// has no coordinate: `NoRecord`, `NoMap` or `NoRange`. Else `NoAxis` of the first setting whose
-    /// tag no axis has. Then `coordinates` are as before.
+    /// has no coordinate: `NoRecord`, `NoMap` or `NoRange`. Else `NoAxis` of the first setting
+    /// whose tag no axis has. Then `coordinates` are as before.
     ///
     /// <details><summary>Contract</summary>
     ///
     /// ```text
-    /// ensures variant { IsOk result ↔ ((length coordinates.old ≡ fvar_axis_count self.now.bytes.now)
+    /// ensures variant { IsOk result
+    ///     ↔ ((length coordinates.old ≡ fvar_axis_count self.now.bytes.now)
     ///     × HaveCoordinates self.now.bytes.now (option_map (λ avar. avar.now) avar.now.bytes)
     ///     × AreOfAxes self.now.bytes.now settings.now) }
     /// ensures error { IfErr result (λ error. IsCoordinatesError self.now.bytes.now
@@ -274,8 +275,8 @@ impl<'a> Fvar<'a> {
         Ok(())
     }
 
-    /// Computes the coordinates as [`coordinates`](Fvar::coordinates) does, but ignores each setting
-    /// whose tag no axis has.
+    /// Computes the coordinates as [`coordinates`](Fvar::coordinates) does, but ignores each
+    /// setting whose tag no axis has.
     ///
     /// This is for the settings of a text, which are given to each font of a list.
     ///
@@ -286,7 +287,8 @@ impl<'a> Fvar<'a> {
     /// <details><summary>Contract</summary>
     ///
     /// ```text
-    /// ensures variant { IsOk result ↔ ((length coordinates.old ≡ fvar_axis_count self.now.bytes.now)
+    /// ensures variant { IsOk result
+    ///     ↔ ((length coordinates.old ≡ fvar_axis_count self.now.bytes.now)
     ///     × HaveCoordinates self.now.bytes.now (option_map (λ avar. avar.now) avar.now.bytes)) }
     /// ensures error { IfErr result (λ error. IsAxesError self.now.bytes.now
     ///     (option_map (λ avar. avar.now) avar.now.bytes) (length coordinates.old) error) }
