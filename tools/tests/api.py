@@ -110,6 +110,15 @@ HEAD = re.compile(
 DERIVED = re.compile(r"#\[derive\((.*?)\)\] ")
 
 
+def whole(head: str, lines: list[str]) -> list[str]:
+    """Returns what users match, write out or implement, to which nothing can be added: the variants
+    of an enum, the fields of a struct if all are public, what has no default in a trait."""
+    rest = [it.strip() for it in lines if not it.endswith("{ .. }")]
+    is_open = "pub struct " in head and not (rest and all(it.startswith("pub ") for it in rest))
+    found = re.match(r".*?\bpub (?:enum|struct|trait) (\w+)", head)
+    return [f"all of {found[1]}: {'; '.join(rest)}"] if found and not is_open else []
+
+
 def of_rust(shown: str) -> Counter[str]:
     """Returns what stays of the library in Rust: the names at its root, and the lines of what has
     such a name, of each `impl` and of macros, but of nothing hidden or private."""
@@ -122,7 +131,8 @@ def of_rust(shown: str) -> Counter[str]:
         of = HEAD.match(head)
         if of and "#[doc(hidden)]" not in head and (of[1] is None or of[1] in names):
             derived = re.findall(r"\w+", " ".join(DERIVED.findall(head)))
-            lines += [DERIVED.sub("", head), *(f"{it} of {of[1]}" for it in derived)]
+            added = [DERIVED.sub("", head), *(f"{it} of {of[1]}" for it in derived)]
+            lines += added + whole(head, lines)
             found.update(it for it in lines if not re.match(r"src/|.*#\[doc\(hidden\)| +_:", it))
     return found
 
@@ -197,9 +207,17 @@ class Api(unittest.TestCase):
         ):
             self.assertGreater(listed.count(old), 0, old)
             self.assertEqual(gone(of_rust, listed, listed.replace(old, new)), lost)
+        for old, new, name in (
+            ("    OutOfRange = 2", "    OutOfRange = 2\n    Other = 3", "DecimalFault"),
+            ("    pub fill: u8", "    pub fill: u8\n    pub more: u8", "Pad"),
+            ("    const NULL: Self", "    const NULL: Self\n    const MORE: Self", "OffsetValue"),
+        ):
+            self.assertEqual(listed.count(old), 1, old)
+            (told,) = gone(of_rust, listed, listed.replace(old, new))
+            self.assertTrue(told.startswith(f"all of {name}: "), told)
         asked = joined((ROOT / path).read_bytes() for path in LASTING[1][2])
-        lost = ["int24 fe1dc0: -123456"]
-        self.assertEqual(gone(of_program, asked, asked.replace("-123456", "-12345")), lost)
+        answer = "int24 fe1dc0: -123456"
+        self.assertEqual(gone(of_program, asked, asked.replace("-123456", "-12345")), [answer])
 
     def test_arguments_of_variations(self) -> None:
         """Those of one function differ in their types."""
