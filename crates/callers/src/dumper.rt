@@ -82,7 +82,7 @@ pub fn parsed_after(line: &[u8]) -> Result<Fixed, DecimalFault>
     Fixed::from_decimal_bytes(&line[5..])
 }
 
-/// Writes a line and reads it back, which gives the value.
+/// Writes a line and reads it back: the value.
 ///
 /// The answer in `proofs/dumper/line_round_trip` says where the label ends.
 pub fn line_round_trip(tag: Tag, value: Fixed) -> Result<Fixed, DecimalFault>
@@ -161,7 +161,7 @@ fn member_of<'a>(value: &'a Value, name: &str) -> Result<&'a Value, JsonFault>
     value.get(name).ok_or(JsonFault::MissingMember)
 }
 
-/// Converts an axis with a valid tag and back, which gives the axis, unless out of memory.
+/// Converts to JSON and back: an axis with a valid tag, unless out of memory.
 pub fn round_trip(axis: Axis, alloc: Global) -> Result<Axis, JsonFault>
     ensures back { IsGood (tag_bytes axis.tag) → IfOk result (λ back. back ≡ axis) }
     ensures refused { IsGood (tag_bytes axis.tag)

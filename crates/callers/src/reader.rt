@@ -138,7 +138,8 @@ pub fn origin_of(origins: ScalarArray<'_, GlyphOrigin>, glyph: GlyphId16) -> Opt
 
 /// Writes a record and reads it: itself, or `None` if the table ends before it.
 pub fn written_origin(vorg: &mut [u8], at: usize, origin: GlyphOrigin) -> Option<GlyphOrigin>
-    ensures { IfSome result (λ read. read ≡ origin) }
+    ensures variant { IsSome result ↔ (at + 4 ≤ length vorg.old) }
+    ensures value { IfSome result (λ read. read ≡ origin) }
 {
     origin.write_at(vorg, at)?;
     GlyphOrigin::read_at(vorg, at)
@@ -149,7 +150,8 @@ pub fn written_origin(vorg: &mut [u8], at: usize, origin: GlyphOrigin) -> Option
 /// The lemma `second_2_2` is for a second field of 2 bytes, after a first field of 2 bytes.
 #[tactic(auto, using(font_types::proofs::Callers::calls, font_types::proofs::Callers::second_2_2))]
 pub fn origin_at(vorg: &[u8], index: u16) -> Option<FWord>
-    ensures { IfSome result (λ origin. fword_number origin
+    ensures variant { IsSome result ↔ (8 + index * 4 + 4 ≤ length vorg.now) }
+    ensures value { IfSome result (λ origin. fword_number origin
         ≡ signed_numeral 2 (take 2 (drop (8 + index * 4 + 2) vorg.now))) }
 {
     Some(GlyphOrigin::read_at(vorg, 8 + usize::from(index) * 4)?.origin)
@@ -220,7 +222,8 @@ impl Scalar for Variant {
 /// Writes a record and reads it, whose fields have other sizes: itself, or `None` without room.
 #[tactic(auto, using(font_types::proofs::Callers::records_1_3_8))]
 pub fn written_variant(cmap: &mut [u8], at: usize, variant: Variant) -> Option<Variant>
-    ensures { IfSome result (λ read. read ≡ variant) }
+    ensures variant { IsSome result ↔ (at + 5 ≤ length cmap.old) }
+    ensures value { IfSome result (λ read. read ≡ variant) }
 {
     variant.write_at(cmap, at)?;
     Variant::read_at(cmap, at)

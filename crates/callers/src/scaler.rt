@@ -97,7 +97,7 @@ pub fn half_line(y: F26Dot6) -> F26Dot6
 
 /// Rounds by a shift: the middle of two coordinates in font units, rounded down.
 ///
-/// The ruleset `shifts` has the bounds of `>>`, beside std's `wraps`.
+/// The ruleset `shifts` has the bounds of `>>`, besides std's `wraps`.
 #[tactic(auto, using(std::proofs::lemmas::Int::wraps, font_types::proofs::Callers::shifts))]
 pub fn halfway(a: i16, b: i16) -> i16
     ensures low { (result +ℤ result) ≤ℤ (a +ℤ b) }

@@ -206,8 +206,8 @@ impl<'a> Fvar<'a> {
     /// Its values are not normalized, because the distances that are divided are numbers of 16.16,
     /// and all of them fit only if `max - min` does.
     ///
-    /// The time is linear in the length of `avar`, and in the number of axes times that of the
-    /// settings.
+    /// The time is linear in the number of axes, in the length of `avar`, and in the number of axes
+    /// times that of the settings.
     ///
     /// # Errors
     ///
