@@ -2,3 +2,4 @@ pub mod Reader
 pub mod Linter
 pub mod Dumper
 pub mod Start
+pub mod Scaler

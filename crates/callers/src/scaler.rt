@@ -1,6 +1,6 @@
 //! A scaler of outlines: points through two matrices, and numbers of font units on a grid.
 
-ghost use Rattle.std.specs.Prelude.{◌≡◌, ◌*◌, ◌^◌, pos, ◌+ℤ◌, ◌-ℤ◌, ◌*ℤ◌, ◌≤ℤ◌, ◌<ℤ◌};
+ghost use Rattle.std.specs.Prelude.{◌≡◌, ◌*◌, ◌^◌, pos, ◌+ℤ◌, ◌-ℤ◌, ◌*ℤ◌, ◌≤ℤ◌, ◌<ℤ◌, length};
 ghost use Rattle.font_types.specs.FixedMatrix.{matrix_bits, point_bits, exact_image, IsWithin};
 ghost use Rattle.font_types.specs.FixedMatrix.{FitsComposed, IsCloseComposed, IsBounded};
 ghost use Rattle.font_types.specs.FixedMatrix.{FitsInTurn, IsCloseInTurn, IsBoundedPoint};
@@ -10,6 +10,8 @@ ghost use Rattle.font_types.specs.{Fixed.fixed_bits, F26Dot6.f26dot6_bits, FWord
 ghost use Rattle.font_types.specs.{F2Dot14.f2dot14_bits};
 ghost use Rattle.font_types.specs.{Near.near, Near.up, Wrap.FitsBits, Wrap.wrap};
 ghost use Rattle.font_types.specs.Operations.{IsIntegral, IsQuotient, IsMulDiv, rounded_mul_div};
+ghost use Rattle.font_types.specs.Delta.{total_below};
+ghost use Rattle.callers.specs.Scaler.{kerned_at};
 
 use font_types::{F2Dot14, F26Dot6, FWord, Fixed, Matrix, Point, laws};
 
@@ -158,4 +160,54 @@ pub fn scaled_edges(low: Fixed, high: Fixed, size: Fixed, units: Fixed) -> (Fixe
         → fixed_bits result.0 ≤ℤ fixed_bits result.1 }
 {
     (low.mul_div(size, units), high.mul_div(size, units))
+}
+
+// Clamps a coordinate to a zone.
+fn in_zone(y: F26Dot6, low: F26Dot6, high: F26Dot6) -> F26Dot6
+    requires { f26dot6_bits low ≤ℤ f26dot6_bits high }
+    ensures low { f26dot6_bits low ≤ℤ f26dot6_bits result }
+    ensures high { f26dot6_bits result ≤ℤ f26dot6_bits high }
+    ensures inside { f26dot6_bits low ≤ℤ f26dot6_bits y → f26dot6_bits y ≤ℤ f26dot6_bits high
+        → f26dot6_bits result ≡ f26dot6_bits y }
+    ensures below { f26dot6_bits y ≤ℤ f26dot6_bits low → f26dot6_bits result ≡ f26dot6_bits low }
+    ensures above { f26dot6_bits high ≤ℤ f26dot6_bits y
+        → f26dot6_bits result ≡ f26dot6_bits high }
+{
+    y.clamp(low, high)
+}
+
+/// Clamps and rounds: a coordinate to a zone, and then to the grid, half up.
+///
+/// The clamp is a function of its own, so that a search meets one call at a time.
+pub fn hinted(y: F26Dot6, low: F26Dot6, high: F26Dot6) -> F26Dot6
+    requires zone { f26dot6_bits low ≤ℤ f26dot6_bits high }
+    requires fits { FitsBits 32 (f26dot6_bits high +ℤ pos 32) }
+    ensures whole { IsIntegral 6 (f26dot6_bits result) }
+    ensures inside { f26dot6_bits low ≤ℤ f26dot6_bits y → f26dot6_bits y ≤ℤ f26dot6_bits high
+        → (f26dot6_bits result ≤ℤ (f26dot6_bits y +ℤ pos 32))
+        × (f26dot6_bits y <ℤ (f26dot6_bits result +ℤ pos 32)) }
+    ensures below { f26dot6_bits y ≤ℤ f26dot6_bits low
+        → (f26dot6_bits result ≤ℤ (f26dot6_bits low +ℤ pos 32))
+        × (f26dot6_bits low <ℤ (f26dot6_bits result +ℤ pos 32)) }
+    ensures above { f26dot6_bits high ≤ℤ f26dot6_bits y
+        → (f26dot6_bits result ≤ℤ (f26dot6_bits high +ℤ pos 32))
+        × (f26dot6_bits high <ℤ (f26dot6_bits result +ℤ pos 32)) }
+{
+    in_zone(y, low, high).round()
+}
+
+/// Adds the numbers of two slices: advances, each with the kerning after it; wrapped once.
+///
+/// The loop goes by index, and the sum is stated by `total_below`, a sum over an index.
+#[tactic(auto, using(font_types::proofs::Callers::calls, font_types::proofs::Callers::lerps))]
+pub fn kerned_width(advances: &[Fixed], kerning: &[Fixed]) -> Fixed
+    requires { length advances.now ≡ length kerning.now }
+    ensures { fixed_bits result
+        ≡ wrap 32 (total_below (kerned_at advances.now kerning.now) (length advances.now)) }
+{
+    let mut width = Fixed::ZERO;
+    for index in 0..advances.len() {
+        width += advances[index] + kerning[index];
+    }
+    width
 }
