@@ -20,7 +20,7 @@ from declared import words  # noqa: E402
 
 LIST = ROOT / "tests/api.txt"
 NOT_SHOWN = re.compile(
-    r"# ! \[ .*?\] |# \[ (?:allow|diagnostic|doc(?! \( hidden)|inline|path)\b.*?\] "
+    r"# ! \[ .*?\] |# \[ (?:allow|deprecated|diagnostic|doc(?! \( hidden)|inline|path)\b.*?\] "
 )
 SHOWN = re.compile(r"(?:# \[ .*?\] )*(?:pub (?!\()|impl\b|# \[ (?:macro_export|cfg (?!\( doc)))")
 
@@ -112,16 +112,18 @@ DERIVED = re.compile(r"#\[derive\((.*?)\)\] ")
 
 def whole(head: str, lines: list[str]) -> list[str]:
     """Returns what users match, write out or implement, to which nothing can be added: the variants
-    of an enum, the fields of a struct if all are public, what has no default in a trait."""
+    of an enum, the fields of a struct if all are public, what has no default in a trait; and what a
+    macro writes for them."""
     rest = [it.strip() for it in lines if not it.endswith("{ .. }")]
     is_open = "pub struct " in head and not (rest and all(it.startswith("pub ") for it in rest))
-    found = re.match(r".*?\bpub (?:enum|struct|trait) (\w+)", head)
+    found = re.match(r".*?\b(?:pub (?:enum|struct|trait)|macro_rules!) (\w+)", head)
     return [f"all of {found[1]}: {'; '.join(rest)}"] if found and not is_open else []
 
 
 def of_rust(shown: str) -> Counter[str]:
     """Returns what stays of the library in Rust: the names at its root, and the lines of what has
-    such a name, of each `impl` and of macros, but of nothing hidden or private."""
+    such a name, of each `impl` and of macros, but of nothing hidden or private. A line has the name
+    or the head of what it is in, because a function of another type does not replace it."""
     library = shown.split("\nvariations/")[0]
     root = library.split("\nsrc/generated/font_types/mod.rs\n")[1].split("\n\n")[0]
     names = re.findall(r"\w+", " ".join(map("".join, USED.findall(root))))
@@ -131,9 +133,10 @@ def of_rust(shown: str) -> Counter[str]:
         of = HEAD.match(head)
         if of and "#[doc(hidden)]" not in head and (of[1] is None or of[1] in names):
             derived = re.findall(r"\w+", " ".join(DERIVED.findall(head)))
-            added = [DERIVED.sub("", head), *(f"{it} of {of[1]}" for it in derived)]
-            lines += added + whole(head, lines)
-            found.update(it for it in lines if not re.match(r"src/|.*#\[doc\(hidden\)| +_:", it))
+            found.update(it for it in [DERIVED.sub("", head)] if not it.startswith("src/"))
+            found.update([*(f"{it} of {of[1]}" for it in derived), *whole(head, lines)])
+            shown_lines = (it for it in lines if not re.match(r".*#\[doc\(hidden\)| +_:", it))
+            found.update(f"{of[1] or head}: {it.strip()}" for it in shown_lines)
     return found
 
 
@@ -196,9 +199,14 @@ class Api(unittest.TestCase):
         """Of planted changes."""
         listed = LIST.read_text()
         (vary,) = re.findall(r"^(?:#.*\] )?(pub fn vary\(.*)", listed, re.M)
+        seconds = "    #[must_use] pub const fn as_secs"
+        dates = ["as_secs(&self) -> i64", "to_be_bytes(self) -> [u8 ; 8]"]
+        of_date, of_matrix = "impl LongDateTime", "impl<T: MatrixElement> Matrix<T>"
+        identity = "pub const IDENTITY: Self = Self::identity()"
         for old, new, lost in (
             (", vary }", " }", ["vary", vary]),
-            ("IDENTITY: Self", "ONE: Self", ["    pub const IDENTITY: Self = Self::identity()"]),
+            ("IDENTITY: Self", "ONE: Self", [f"{of_matrix}: {identity}"]),
+            (seconds, f"impl FWord\n{seconds}", [f"{of_date}: pub const fn {it}" for it in dates]),
             ("Clone, Copy)] pub struct Short", "Copy)] pub struct Short", ["Clone of Shortest"]),
             ("trait OffsetValue: Copy", "trait OffsetValue", ["pub trait OffsetValue: Copy"]),
             ("pub const fn max_text_len", "fn max_text_len", []),
@@ -211,6 +219,7 @@ class Api(unittest.TestCase):
             ("    OutOfRange = 2", "    OutOfRange = 2\n    Other = 3", "DecimalFault"),
             ("    pub fill: u8", "    pub fill: u8\n    pub more: u8", "Pad"),
             ("    const NULL: Self", "    const NULL: Self\n    const MORE: Self", "OffsetValue"),
+            ("    impl $Scalar", "    impl Clone for $Name\n        impl $Scalar", "record"),
         ):
             self.assertEqual(listed.count(old), 1, old)
             (told,) = gone(of_rust, listed, listed.replace(old, new))
