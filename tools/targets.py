@@ -3,8 +3,8 @@
 
 Debian's packages have rustc with the source of its std, compilers of C, and qemu. They are unpacked
 in a folder that goes at the end, and nothing is installed. If something cannot be had, the row says
-why. The command fails if something differs, fails or is not proved. What failed is printed as an
-error."""
+why, and the command does not fail for that. It fails if something differs, or if a test or a proof
+fails. What failed is printed as an error."""
 
 import itertools
 import os

@@ -72,8 +72,8 @@
  * - "checked" means, as in Rust, that the function fails, by FTY_OUT_OF_RANGE, where its sum, its
  *   rounding or its conversion does not fit.
  * - A function that can fail returns a fty_status, and stores its result where its last argument
- *   points, or in its span. Any other returns its result, but poke and fty_matrix_transform_points
- *   store it.
+ *   points, or in its view or span. Any other returns its result, but poke and
+ *   fty_matrix_transform_points store it.
  * - A "length" counts bytes, a "count" elements, a "size" the bytes of one element, and "room" the
  *   bytes of a buffer. An "offset" counts bytes from the start, and an "index" elements.
  * - A name with "api" or "API" is private to this header.

@@ -323,7 +323,8 @@ pub trait OffsetValue: Copy {
     /// `None` if it is: of what `get` returns, `None` here means past the end.
     ///
     /// The offset of a string in `name`, or of a glyph in `loca` or `gvar`, is not null if it is 0.
-    /// There, call `get` of the slice:
+    /// There, call `get` of the slice. (An [`Offset16`] of `loca` or `gvar` counts in units of 2
+    /// bytes.)
     ///
     /// ```
     /// use font_types::{Offset16, OffsetValue};
