@@ -1,8 +1,8 @@
 //! A reader of tables: vertical origins, in `VORG`.
 
-ghost use Rattle.std.specs.Prelude.{◌≡◌, ◌↔◌, ◌≤◌, ◌<◌, ◌+◌, ◌*◌, ◌^◌, ◌&&◌, ◌++◌, pos, nat_lt};
+ghost use Rattle.std.specs.Prelude.{◌≡◌, ◌≢◌, ◌↔◌, ◌≤◌, ◌<◌, ◌+◌, ◌*◌, ◌^◌, ◌&&◌, ◌++◌, pos};
 ghost use Rattle.std.specs.Prelude.{IsSome, IfSome, IfNone, MatchOption, Some, ℕ, length, take};
-ghost use Rattle.std.specs.Prelude.{drop, true, refl};
+ghost use Rattle.std.specs.Prelude.{drop, true, refl, nat_lt};
 ghost use Rattle.std.specs.Ordering.{nat_cmp};
 ghost use Rattle.std.proofs.Common.{lit<};
 ghost use Rattle.font_types.specs.Bytes.{numeral, signed_numeral, bytes_of};
@@ -13,12 +13,12 @@ ghost use Rattle.font_types.specs.GlyphId.{glyph16_number, glyph16_of};
 ghost use Rattle.font_types.specs.Array.{IsSearched, array_len, element_bytes};
 ghost use Rattle.font_types.specs.{Records.record_laws, Wrap.fits_bits};
 ghost use Rattle.font_types.specs.{Tag.tag_bytes, Fixed.fixed_bits, Uint24.Laws.uint24_laws};
-ghost use Rattle.font_types.specs.Uint24.{uint24_of_bytes, bytes_of_uint24};
+ghost use Rattle.font_types.specs.Uint24.{uint24_number, uint24_of_bytes, bytes_of_uint24};
 ghost use Rattle.callers.specs.Reader.{metrics_bytes, range_bytes};
 
 use font_types::{
-    BigEndian, FWord, Fixed, FixedSize, GlyphId16, Scalar, ScalarArray, TableDataRef, TableHeader,
-    Tag, UfWord, Uint24,
+    BigEndian, FWord, Fixed, FixedSize, GlyphId16, LongDateTime, Offset16, OffsetValue, Scalar,
+    ScalarArray, TableDataRef, TableHeader, Tag, UfWord, Uint24,
 };
 
 /// Reads bytes by offset and length: those of a table, or `None` if the font ends before them.
@@ -136,6 +136,26 @@ pub fn origin_of(origins: ScalarArray<'_, GlyphOrigin>, glyph: GlyphId16) -> Opt
     Some(origins.get(index)?.origin)
 }
 
+/// Searches records and reads the one found: the vertical origin of a glyph, or `None`.
+///
+/// The answer names the key. If the records are sorted by their glyphs, `None` says that none of
+/// them is of the glyph.
+pub fn origin_or_none(origins: ScalarArray<'_, GlyphOrigin>, glyph: GlyphId16) -> Option<FWord>
+    ensures found { IfSome result (λ origin. (i : ℕ) × (i < array_len origins.entry)
+        × (element_bytes origins.entry i
+        ≡ bytes_of 2 (pos (glyph16_number glyph)) ++ bytes_of 2 (fword_number origin))) }
+    ensures absent { ((i j : ℕ) → i ≤ j → j < array_len origins.entry
+        → numeral (take 2 (element_bytes origins.entry i))
+        ≤ numeral (take 2 (element_bytes origins.entry j)))
+        → IfNone result ((k : ℕ) → k < array_len origins.entry
+        → numeral (take 2 (element_bytes origins.entry k)) ≢ glyph16_number glyph) }
+{
+    match origins.binary_search_by(|pair| pair.glyph.cmp(&glyph)) {
+        Ok(index) => Some(origins.get(index)?.origin),
+        Err(_) => None,
+    }
+}
+
 /// Writes a record and reads it: itself, or `None` if the table ends before it.
 pub fn written_origin(vorg: &mut [u8], at: usize, origin: GlyphOrigin) -> Option<GlyphOrigin>
     ensures variant { IsSome result ↔ (at + 4 ≤ length vorg.old) }
@@ -171,6 +191,46 @@ pub fn counted_numbers(list: &[u8]) -> Option<ScalarArray<'_, u32>>
     let mut rest = list;
     let count = u16::take_from(&mut rest)?;
     ScalarArray::take_from(&mut rest, usize::from(count))
+}
+
+/// Takes an array after its count, from the rest of a slice: the glyphs of a coverage, in format 1.
+///
+/// `rests` is for what stands in the rest of a slice that `get(k..)` returns.
+#[tactic(auto, using(font_types::proofs::Callers::calls, font_types::proofs::Callers::rests))]
+pub fn covered_glyphs(coverage: &[u8]) -> Option<ScalarArray<'_, GlyphId16>>
+    ensures variant { IsSome result ↔ ((4 ≤ length coverage.now)
+        × (4 + numeral (take 2 (drop 2 coverage.now)) * 2 ≤ length coverage.now)) }
+    ensures len { IfSome result (λ array.
+        array_len array ≡ numeral (take 2 (drop 2 coverage.now))) }
+    ensures elements { IfSome result (λ array. (i : ℕ) → i < numeral (take 2 (drop 2 coverage.now))
+        → element_bytes array i ≡ take 2 (drop (4 + i * 2) coverage.now)) }
+{
+    let count = u16::read_at(coverage, 2)?;
+    let mut rest = coverage.get(4..)?;
+    ScalarArray::take_from(&mut rest, usize::from(count))
+}
+
+/// Reads a field of a table at an offset: the first glyph of the classes of `GDEF`, in format 1.
+#[tactic(auto, using(font_types::proofs::Callers::calls, font_types::proofs::Callers::rests))]
+pub fn first_in_classes(gdef: &[u8]) -> Option<GlyphId16>
+    ensures variant { IsSome result ↔ ((6 ≤ length gdef.now)
+        × (numeral (take 2 (drop 4 gdef.now)) + 4 ≤ length gdef.now)) }
+    ensures value { IfSome result (λ glyph. glyph16_number glyph
+        ≡ numeral (take 2 (drop (numeral (take 2 (drop 4 gdef.now)) + 2) gdef.now))) }
+{
+    let offset = Offset16::read_at(gdef, 4)?;
+    let classes = gdef.get(offset.to_usize()..)?;
+    GlyphId16::read_at(classes, 2)
+}
+
+/// Reads a field of a table that `follow` returns: how many glyphs those classes are for.
+#[tactic(auto, using(font_types::proofs::Callers::calls, font_types::proofs::Callers::follows))]
+pub fn count_in_classes(gdef: &[u8]) -> Option<u16>
+    ensures { IfSome result (λ count. count
+        ≡ numeral (take 2 (drop (numeral (take 2 (drop 4 gdef.now)) + 4) gdef.now))) }
+{
+    let classes = Offset16::read_at(gdef, 4)?.follow(gdef)?;
+    u16::read_at(classes, 4)
 }
 
 /// A record with a 24-bit field: a character of `cmap`, and its glyph in a variation sequence.
@@ -227,6 +287,27 @@ pub fn written_variant(cmap: &mut [u8], at: usize, variant: Variant) -> Option<V
 {
     variant.write_at(cmap, at)?;
     Variant::read_at(cmap, at)
+}
+
+/// Reads the number of a first field of 24 bits: a character of `cmap`.
+pub fn character_at(cmap: &[u8], at: usize) -> Option<Uint24>
+    ensures variant { IsSome result ↔ (at + 5 ≤ length cmap.now) }
+    ensures value { IfSome result (λ character.
+        uint24_number character ≡ numeral (take 3 (drop at cmap.now))) }
+{
+    Some(Variant::read_at(cmap, at)?.character)
+}
+
+/// Writes a field of 8 bytes and reads it: a date of `head`, or `None` without room.
+///
+/// The lemma `signed_field_8` is for a signed field of 8 bytes.
+#[tactic(auto, using(font_types::proofs::Callers::signed_field_8))]
+pub fn written_date(head: &mut [u8], at: usize, date: LongDateTime) -> Option<LongDateTime>
+    ensures variant { IsSome result ↔ (at + 8 ≤ length head.old) }
+    ensures value { IfSome result (λ read. read ≡ date) }
+{
+    date.write_at(head, at)?;
+    LongDateTime::read_at(head, at)
 }
 
 /// Writes a part of a table, at an offset: an advance width, and the offset after it.

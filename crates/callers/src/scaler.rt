@@ -211,3 +211,19 @@ pub fn kerned_width(advances: &[Fixed], kerning: &[Fixed]) -> Fixed
     }
     width
 }
+
+/// Adds the numbers of two slices by `zip`: the same width.
+///
+/// The loop has no index. In its invariant, `length l.yielded` stands for one.
+#[tactic(auto, using(font_types::proofs::Callers::calls, font_types::proofs::Callers::lerps))]
+pub fn kerned_width_by_zip(advances: &[Fixed], kerning: &[Fixed]) -> Fixed
+    requires { length advances.now ≡ length kerning.now }
+    ensures { fixed_bits result
+        ≡ wrap 32 (total_below (kerned_at advances.now kerning.now) (length advances.now)) }
+{
+    let mut width = Fixed::ZERO;
+    for (advance, kern) in advances.iter().zip(kerning) {
+        width += *advance + *kern;
+    }
+    width
+}

@@ -15,6 +15,7 @@ use Rattle.font_types.proofs.Narrowed.{exact_narrow_calls, exact_sum_is_integral
 use Rattle.font_types.proofs.{Searches.search_calls, StoredBytes.stored_calls, ShortProducts.short_product_calls}
 use Rattle.font_types.proofs.{ArrayNumbers.array_number_calls, Below.below_calls, Writes.write_calls}
 use Rattle.font_types.proofs.Fields.{field_calls, record_calls, other_record_calls, header_calls}
+use Rattle.font_types.proofs.Fields.{rest_calls, beyond_calls}
 pub use Rattle.font_base.proofs.ScalarCalls.{absent, nowhere, rises_by}
 pub use Rattle.font_base.proofs.Moved.{bytes_moved}
 pub use Rattle.font_base.specs.Wrap.Laws.{wrap_is, wrap_unique, wrap-fits}
@@ -46,6 +47,10 @@ pub use Rattle.font_types.proofs.Fields.{second_2_1, second_2_2, second_2_3, sec
 pub use Rattle.font_types.proofs.Fields.{second_3_1, second_3_2, second_3_3, second_3_4, second_3_8, behind_3}
 pub use Rattle.font_types.proofs.Fields.{second_4_1, second_4_2, second_4_3, second_4_4, second_4_8, behind_4}
 pub use Rattle.font_types.proofs.Fields.{second_8_1, second_8_2, second_8_3, second_8_4, second_8_8, behind_8}
+-- for a field of 8 bytes that is written and read, in place of `calls`
+pub use Rattle.font_types.proofs.Fields.{signed_field_8}
+-- for an answer: if a search finds no index, no record has the number, or the key of bytes
+pub use Rattle.font_types.proofs.RecordSearches.{no_record_has, no_record_has_key}
 pub use Rattle.font_types.specs.Json.Laws.{fixed_form, signed_form, unsigned_form, tag_form, version_form_of}
 
 -- the rules by which functions of callers prove
@@ -103,6 +108,11 @@ pub ruleset orders = (order_calls)
 
 -- for several writes in one body
 pub ruleset writes = (write_calls)
+
+-- for what stands in the rest of a slice: by `get(k..)`, and by `follow`
+pub ruleset rests = (rest_calls)
+
+pub ruleset follows = (beyond_calls)
 
 -- for a record that is encoded and decoded, in place of `calls`
 pub ruleset records = (record_calls)

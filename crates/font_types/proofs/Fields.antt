@@ -2,9 +2,9 @@
 use Rattle.std.proofs.Common.{◌≡◌, ◌∙◌, refl, sym, ap, lit<, arith, ℕ, ◌+◌, ◌*◌, ◌^◌, ◌<◌, ◌≤◌, ℤ, pos, IsTrue, nat_lt}
 use Rattle.std.proofs.Common.{List, [], ◌∷◌, ◌++◌, length, take, drop, get_or, nat_cmp, Equal, append_assoc}
 use Rattle.std.proofs.lemmas.List.{length-append, append-nil, take-append-le, take_all, take_at, drop_at}
-use Rattle.std.proofs.lemmas.List.{drop-append-le, drop-take, drop-drop}
+use Rattle.std.proofs.lemmas.List.{drop-append-le, drop-take, drop-drop, take_rest}
 use Rattle.std.proofs.lemmas.Map.Lookups.{exact_bytes}
-use Rattle.std.specs.Cmp.Lexicographic.{slice_cmp}
+use Rattle.std.specs.{Cmp.Lexicographic.slice_cmp, List.slice_range}
 use Rattle.font_base.specs.{Bytes.numeral, Bytes.bytes_of, Bytes.signed_numeral, Wrap.fits_bits}
 use Rattle.font_base.specs.Wrap.Laws.{fits_bits-true}
 use Rattle.font_base.specs.{declared.uint24.Uint24.Uint24, Uint24.uint24_number, Uint24.uint24_of}
@@ -78,6 +78,20 @@ IsBehind k = (m : ℕ) (bytes : List ℕ) → drop m (drop k bytes) ≡ drop (k 
 
 behind : (k : ℕ) → IsBehind k
 behind k m bytes = drop-drop m k bytes
+
+-- the same if `get(k..)` leaves those bytes out
+abbrev IsRest : ℕ → Type 0
+IsRest k = (m : ℕ) (bytes : List ℕ) → drop m (slice_range bytes k (length bytes)) ≡ drop (k + m) bytes
+
+pub rest : (k : ℕ) → IsRest k
+rest k m bytes = ap (drop m) (take_rest bytes k) ∙ drop-drop m k bytes
+
+-- what is stored m bytes further on, such as a field of a table at an offset
+abbrev IsFurther : ℕ → Type 0
+IsFurther m = (k : ℕ) (bytes : List ℕ) → drop m (slice_range bytes k (length bytes)) ≡ drop (k + m) bytes
+
+abbrev IsBeyond : ℕ → Type 0
+IsBeyond m = (k : ℕ) (bytes : List ℕ) → drop m (drop k bytes) ≡ drop (k + m) bytes
 
 -- their instances
 
@@ -222,6 +236,96 @@ behind_4 = behind 4
 pub behind_8 : IsBehind 8
 behind_8 = behind 8
 
+pub rest_1 : IsRest 1
+rest_1 = rest 1
+
+pub rest_2 : IsRest 2
+rest_2 = rest 2
+
+pub rest_3 : IsRest 3
+rest_3 = rest 3
+
+pub rest_4 : IsRest 4
+rest_4 = rest 4
+
+pub rest_6 : IsRest 6
+rest_6 = rest 6
+
+pub rest_8 : IsRest 8
+rest_8 = rest 8
+
+pub rest_10 : IsRest 10
+rest_10 = rest 10
+
+pub rest_12 : IsRest 12
+rest_12 = rest 12
+
+pub rest_14 : IsRest 14
+rest_14 = rest 14
+
+pub rest_16 : IsRest 16
+rest_16 = rest 16
+
+pub further_1 : IsFurther 1
+further_1 k bytes = rest k 1 bytes
+
+pub further_2 : IsFurther 2
+further_2 k bytes = rest k 2 bytes
+
+pub further_3 : IsFurther 3
+further_3 k bytes = rest k 3 bytes
+
+pub further_4 : IsFurther 4
+further_4 k bytes = rest k 4 bytes
+
+pub further_6 : IsFurther 6
+further_6 k bytes = rest k 6 bytes
+
+pub further_8 : IsFurther 8
+further_8 k bytes = rest k 8 bytes
+
+pub further_10 : IsFurther 10
+further_10 k bytes = rest k 10 bytes
+
+pub further_12 : IsFurther 12
+further_12 k bytes = rest k 12 bytes
+
+pub further_14 : IsFurther 14
+further_14 k bytes = rest k 14 bytes
+
+pub further_16 : IsFurther 16
+further_16 k bytes = rest k 16 bytes
+
+pub beyond_1 : IsBeyond 1
+beyond_1 k bytes = behind k 1 bytes
+
+pub beyond_2 : IsBeyond 2
+beyond_2 k bytes = behind k 2 bytes
+
+pub beyond_3 : IsBeyond 3
+beyond_3 k bytes = behind k 3 bytes
+
+pub beyond_4 : IsBeyond 4
+beyond_4 k bytes = behind k 4 bytes
+
+pub beyond_6 : IsBeyond 6
+beyond_6 k bytes = behind k 6 bytes
+
+pub beyond_8 : IsBeyond 8
+beyond_8 k bytes = behind k 8 bytes
+
+pub beyond_10 : IsBeyond 10
+beyond_10 k bytes = behind k 10 bytes
+
+pub beyond_12 : IsBeyond 12
+beyond_12 k bytes = behind k 12 bytes
+
+pub beyond_14 : IsBeyond 14
+beyond_14 k bytes = behind k 14 bytes
+
+pub beyond_16 : IsBeyond 16
+beyond_16 k bytes = behind k 16 bytes
+
 -- ---- a header of four fields of 4 bytes
 
 elements_4 : (xs ys : List ℕ) → length xs ≡ 4
@@ -300,3 +404,41 @@ pub ruleset other_record_calls = (
 
 -- a header of four fields of 4 bytes
 pub ruleset header_calls = (length-append, length_of_bytes, four_fields, four_parts, numeral_of_4, signed_of_4)
+
+-- what stands in the rest of a slice by `get(k..)`, and by `drop`
+pub ruleset rest_calls = (
+  rest,
+  rest_1,
+  rest_2,
+  rest_3,
+  rest_4,
+  rest_6,
+  rest_8,
+  rest_10,
+  rest_12,
+  rest_14,
+  rest_16,
+  further_1,
+  further_2,
+  further_3,
+  further_4,
+  further_6,
+  further_8,
+  further_10,
+  further_12,
+  further_14,
+  further_16,
+)
+
+pub ruleset beyond_calls = (
+  beyond_1,
+  beyond_2,
+  beyond_3,
+  beyond_4,
+  beyond_6,
+  beyond_8,
+  beyond_10,
+  beyond_12,
+  beyond_14,
+  beyond_16,
+)

@@ -1,6 +1,7 @@
 pub mod SumCalls
 pub mod StoredBytes
 pub mod Searches
+pub mod RecordSearches
 pub mod ShortProducts
 pub mod Parts
 pub mod Ratios

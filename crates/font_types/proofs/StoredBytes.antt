@@ -1,10 +1,14 @@
 -- Stored bytes: `==` compares those of numbers; a number just read has a shortest text; and the numbers of 24-bit
 -- integers.
-use Rattle.std.proofs.Common.{◌≡◌, ◌∙◌, ℕ, ◌≤◌, ℤ, sym, lit<, arith, Bool, List, length}
+use Rattle.std.proofs.Common.{◌≡◌, ◌∙◌, ℕ, ◌≤◌, ℤ, pos, sym, ap, lit<, arith, Bool, List, ◌++◌, length, take}
+use Rattle.std.proofs.lemmas.List.{take_at, take-take}
 use Rattle.std.proofs.{Math.Nat.pow-le-pow_right, lemmas.Int.ints, lemmas.Slice.Eq.bytes_eq-Decides}
 use Rattle.std.specs.{Prelude.IsTrue, Str.bytes_eq}
 use Rattle.font_base.specs.Bytes.{are_bytes, bytes_of, numeral, signed_numeral, IsBytesOf}
 use Rattle.font_base.specs.Bytes.Laws.{bytes_of_is, bytes_of_are, bytes_unique, numeral_below, FitsBits-signed_numeral}
+use Rattle.font_base.specs.{declared.uint24.Uint24.Uint24, declared.int24.Int24.Int24}
+use Rattle.font_base.specs.Bytes.Laws.{are_bytes-bytes_of, are_bytes-length}
+use Rattle.font_base.proofs.ScalarCalls.{uint24_of_stored, int24_of_stored}
 use Rattle.font_base.specs.{Int24.int24_number, Int24.int24_of, Int24.Laws.int24_number-of, Uint24.uint24_number}
 use Rattle.font_base.specs.{Uint24.uint24_of, Uint24.Laws.uint24_number-of}
 use Rattle.font_decimal.specs.Shortest.{IsShortest, shortest_text}
@@ -40,4 +44,38 @@ uint24_of_read bytes are short = grind (arith, uint24_number-of, numeral_below, 
 pub int24_of_read : (bytes : List ℕ) → int24_number (int24_of (signed_numeral 3 bytes)) ≡ signed_numeral 3 bytes
 int24_of_read bytes = int24_number-of (signed_numeral 3 bytes) (FitsBits-signed_numeral 3 bytes (lit< tt))
 
-pub ruleset stored_calls = (is_stored, equals_stored, shortest_read_4, shortest_read_2, uint24_of_read, int24_of_read)
+-- those of the first field of a record, which is stored, or is read from the first m bytes
+module _ (rest bytes : List ℕ) where
+  first : (z : ℤ) → bytes_of 3 z ++ rest ≡ bytes → bytes_of 3 z ≡ take 3 bytes
+  first z is =
+      sym (take_at (bytes_of 3 z) rest 3 (are_bytes-length 3 (bytes_of 3 z) (are_bytes-bytes_of 3 z))) ∙ ap (take 3) is
+
+  pub uint24_first : (n : Uint24) → bytes_of 3 (pos (uint24_number n)) ++ rest ≡ bytes
+      → uint24_number n ≡ numeral (take 3 bytes)
+  uint24_first n is = uint24_of_stored n (take 3 bytes) (first _ is)
+
+  pub int24_first : (n : Int24) → bytes_of 3 (int24_number n) ++ rest ≡ bytes
+      → int24_number n ≡ signed_numeral 3 (take 3 bytes)
+  int24_first n is = int24_of_stored n (take 3 bytes) (first _ is)
+
+module _ (m : ℕ) (rest bytes : List ℕ) where
+  pub uint24_first_read : (n : Uint24) → bytes_of 3 (pos (uint24_number n)) ++ rest ≡ take m bytes → 3 ≤ m
+      → uint24_number n ≡ numeral (take 3 bytes)
+  uint24_first_read n is some = uint24_first rest (take m bytes) n is ∙ ap numeral (take-take 3 m bytes some)
+
+  pub int24_first_read : (n : Int24) → bytes_of 3 (int24_number n) ++ rest ≡ take m bytes → 3 ≤ m
+      → int24_number n ≡ signed_numeral 3 (take 3 bytes)
+  int24_first_read n is some = int24_first rest (take m bytes) n is ∙ ap (signed_numeral 3) (take-take 3 m bytes some)
+
+pub ruleset stored_calls = (
+  is_stored,
+  equals_stored,
+  shortest_read_4,
+  shortest_read_2,
+  uint24_of_read,
+  int24_of_read,
+  uint24_first,
+  int24_first,
+  uint24_first_read,
+  int24_first_read,
+)
