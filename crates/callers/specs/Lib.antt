@@ -3,3 +3,4 @@ pub mod Linter
 pub mod Dumper
 pub mod Start
 pub mod Scaler
+pub mod Words

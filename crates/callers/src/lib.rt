@@ -6,6 +6,7 @@
 //! - `scaler`: points through two matrices, and numbers on a grid.
 //! - `linter`: tags and the records of a table directory.
 //! - `dumper`: numbers in columns and lines, and JSON.
+//! - `words`: several numbers in a line, printed and parsed.
 #![tactic(auto, using(font_types::proofs::Callers::calls))]
 
 pub mod dumper;
@@ -15,3 +16,4 @@ pub mod scaler;
 pub mod start;
 #[cfg(test)]
 mod tests;
+pub mod words;

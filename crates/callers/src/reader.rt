@@ -6,7 +6,7 @@ ghost use Rattle.std.specs.Prelude.{drop, true, refl, nat_lt};
 ghost use Rattle.std.specs.Ordering.{nat_cmp};
 ghost use Rattle.std.proofs.Common.{lit<};
 ghost use Rattle.font_types.specs.Bytes.{numeral, signed_numeral, bytes_of};
-ghost use Rattle.font_types.specs.Scalar.Laws.{unsigned_newtype, signed_newtype};
+ghost use Rattle.font_types.specs.Scalar.Laws.{unsigned_newtype, signed_newtype, unsigned_laws};
 ghost use Rattle.std.specs.List.{flat_map};
 ghost use Rattle.font_types.specs.FWord.{fword_number, fword_of, ufword_number};
 ghost use Rattle.font_types.specs.GlyphId.{glyph16_number, glyph16_of};
@@ -175,6 +175,60 @@ pub fn origin_at(vorg: &[u8], index: u16) -> Option<FWord>
         ≡ signed_numeral 2 (take 2 (drop (8 + index * 4 + 2) vorg.now))) }
 {
     Some(GlyphOrigin::read_at(vorg, 8 + usize::from(index) * 4)?.origin)
+}
+
+/// A record of three fields: a group of `cmap`, with its first and last characters and the glyph of
+/// the first. To `record_laws`, the last two fields are one, a pair, which has laws of its own.
+#[derive(Clone, Copy)]
+pub struct Group {
+    pub first: u32,
+    pub last: u32,
+    pub glyph: u32,
+}
+
+impl FixedSize for Group {
+    const RAW_BYTE_LEN: usize = 12;
+
+    ghost RAW_BYTE_LEN = { 12 };
+}
+
+impl Scalar for Group {
+    type Raw = [u8; 12];
+
+    ghost is_scalar = { λ group. nat_lt group.first (2 ^ 32)
+        && (nat_lt group.last (2 ^ 32) && nat_lt group.glyph (2 ^ 32)) };
+
+    ghost of_raw = { λ raw. record {
+      first = numeral (take 4 raw);
+      last = numeral (take 4 (drop 4 raw));
+      glyph = numeral (drop 4 (drop 4 raw));
+    } };
+
+    ghost raw_of = { λ group. bytes_of 4 (pos group.first)
+        ++ (bytes_of 4 (pos group.last) ++ bytes_of 4 (pos group.glyph)) };
+
+    ghost laws = { record_laws {B = ℕ × ℕ} 4 8 (λ group. group.first)
+        (λ group. (group.last, group.glyph))
+        (λ first rest. record { first = first; last = rest.0; glyph = rest.1 })
+        (λ _ _. refl) (λ _ _. refl) (λ _. refl)
+        (unsigned_laws 4)
+        (record_laws 4 4 (λ rest. rest.0) (λ rest. rest.1) (λ last glyph. (last, glyph))
+        (λ _ _. refl) (λ _ _. refl) (λ _. refl) (unsigned_laws 4) (unsigned_laws 4)) };
+
+    fn from_raw(raw: [u8; 12]) -> Group {
+        Group {
+            first: u32::read(&raw[..4]).unwrap(),
+            last: u32::read(&raw[4..8]).unwrap(),
+            glyph: u32::read(&raw[8..]).unwrap(),
+        }
+    }
+
+    fn to_raw(self) -> [u8; 12] {
+        let [a, b, c, d] = self.first.to_raw();
+        let [e, f, g, h] = self.last.to_raw();
+        let [i, j, k, l] = self.glyph.to_raw();
+        [a, b, c, d, e, f, g, h, i, j, k, l]
+    }
 }
 
 /// Takes an array after its count: 32-bit numbers, or `None` if the list ends before they do.

@@ -1,19 +1,20 @@
 //! A scaler of outlines: points through two matrices, and numbers of font units on a grid.
 
 ghost use Rattle.std.specs.Prelude.{◌≡◌, ◌*◌, ◌^◌, pos, ◌+ℤ◌, ◌-ℤ◌, ◌*ℤ◌, ◌≤ℤ◌, ◌<ℤ◌, length};
+ghost use Rattle.std.specs.Prelude.{◌↔◌, ◌≤◌, IsSome, IfSome};
 ghost use Rattle.font_types.specs.FixedMatrix.{matrix_bits, point_bits, exact_image, IsWithin};
 ghost use Rattle.font_types.specs.FixedMatrix.{FitsComposed, IsCloseComposed, IsBounded};
 ghost use Rattle.font_types.specs.FixedMatrix.{FitsInTurn, IsCloseInTurn, IsBoundedPoint};
-ghost use Rattle.font_types.specs.FixedMatrix.{rounded_matrix_product};
+ghost use Rattle.font_types.specs.FixedMatrix.{rounded_matrix_product, rounded_product};
 ghost use Rattle.font_types.specs.Fixed;
 ghost use Rattle.font_types.specs.{Fixed.fixed_bits, F26Dot6.f26dot6_bits, FWord.fword_number};
-ghost use Rattle.font_types.specs.{F2Dot14.f2dot14_bits};
+ghost use Rattle.font_types.specs.{F2Dot14.f2dot14_bits, FWord.ufword_number, Scale.scale_bits};
 ghost use Rattle.font_types.specs.{Near.near, Near.up, Wrap.FitsBits, Wrap.wrap};
 ghost use Rattle.font_types.specs.Operations.{IsIntegral, IsQuotient, IsMulDiv, rounded_mul_div};
 ghost use Rattle.font_types.specs.Delta.{total_below};
 ghost use Rattle.callers.specs.Scaler.{kerned_at};
 
-use font_types::{F2Dot14, F26Dot6, FWord, Fixed, Matrix, Point, laws};
+use font_types::{F2Dot14, F26Dot6, FWord, Fixed, Matrix, Point, Scale, UfWord, laws};
 
 // Transforms a point by `place` and then by `scale`, with one matrix composed of both.
 //
@@ -146,7 +147,7 @@ pub fn blend(from: Fixed, to: Fixed, t: Fixed) -> Fixed
 
 /// Scales two values, in order: edges by one ratio, which keeps their order if neither overflows.
 ///
-/// The ruleset `orders` has this of numbers that are scaled, narrowed or rounded.
+/// The ruleset `orders` has this of two results of `mul_div`.
 #[tactic(auto, using(font_types::proofs::Callers::orders))]
 pub fn scaled_edges(low: Fixed, high: Fixed, size: Fixed, units: Fixed) -> (Fixed, Fixed)
     requires { (pos 0 ≤ℤ fixed_bits size) × (pos 0 <ℤ fixed_bits units) }
@@ -226,4 +227,47 @@ pub fn kerned_width_by_zip(advances: &[Fixed], kerning: &[Fixed]) -> Fixed
         width += *advance + *kern;
     }
     width
+}
+
+// Scales an advance to 26.6, exactly rounded.
+fn scaled_advance(advance: UfWord, scale: Scale) -> F26Dot6
+    ensures { f26dot6_bits result
+        ≡ rounded_product (pos (ufword_number advance)) (scale_bits scale) }
+{
+    scale
+        .checked_apply_i32(i32::from(advance.to_u16()))
+        .unwrap()
+}
+
+/// Scales two numbers by a `Scale`, in order: advances, of which the wider one stays no narrower.
+///
+/// Each number is scaled by a function of its own, which states the value that the order is about.
+#[tactic(auto, using(font_types::proofs::Callers::calls, font_types::proofs::Callers::orders))]
+pub fn scaled_advances(narrow: UfWord, wide: UfWord, scale: Scale) -> (F26Dot6, F26Dot6)
+    requires { pos 0 ≤ℤ scale_bits scale }
+    ensures narrow { f26dot6_bits result.0
+        ≡ rounded_product (pos (ufword_number narrow)) (scale_bits scale) }
+    ensures wide { f26dot6_bits result.1
+        ≡ rounded_product (pos (ufword_number wide)) (scale_bits scale) }
+    ensures order { ufword_number narrow ≤ ufword_number wide
+        → f26dot6_bits result.0 ≤ℤ f26dot6_bits result.1 }
+{
+    (scaled_advance(narrow, scale), scaled_advance(wide, scale))
+}
+
+/// Rounds two numbers to integers, in order: widths in whole pixels, or `None` if one overflows.
+///
+/// The order of the two steps, scaled and rounded, is that of each, in a function of its own.
+#[tactic(auto, using(font_types::proofs::Callers::calls, font_types::proofs::Callers::orders))]
+pub fn whole_widths(low: F26Dot6, high: F26Dot6) -> Option<(i32, i32)>
+    ensures variant { IsSome result
+        ↔ (FitsBits 26 (up (f26dot6_bits low) 64) × FitsBits 26 (up (f26dot6_bits high) 64)) }
+    ensures low { IfSome result (λ widths. widths.0 ≡ up (f26dot6_bits low) 64) }
+    ensures high { IfSome result (λ widths. widths.1 ≡ up (f26dot6_bits high) 64) }
+    ensures order { IfSome result (λ widths. f26dot6_bits low ≤ℤ f26dot6_bits high
+        → widths.0 ≤ℤ widths.1) }
+{
+    let low = low.checked_to_i32()?;
+    let high = high.checked_to_i32()?;
+    Some((low, high))
 }

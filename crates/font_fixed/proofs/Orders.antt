@@ -46,6 +46,17 @@ rounded_in_order w f x y r s wide first second order fits_r fits_s =
     let whole = up_monotone (up_is x (2 ^ f) (pow_pos f)) (up_is y (2 ^ f) (pow_pos f)) order in
     rw (kept_r, kept_s) (times_monotone _ _ (2 ^ f) whole)
 
+-- nor of two fractions, or of two products by a number that is not negative, where the results fit
+pub ups_in_order : (x y : ℤ) (d : ℕ) → 0 < d → x ≤ℤ y → up x d ≤ℤ up y d
+ups_in_order x y d some order = up_monotone (up_is x d some) (up_is y d some) order
+
+pub multiples_in_order : (n m : ℕ) (s : ℤ) (d : ℕ) → 0 < d → pos 0 ≤ℤ s → n ≤ m
+    → near (pos n *ℤ s) d ≤ℤ near (pos m *ℤ s) d
+multiples_in_order n m (pos s) d some from order =
+    near_monotone some some (near_is (pos n *ℤ pos s) d some) (near_is (pos m *ℤ pos s) d some)
+    (times_monotone _ _ d (times_monotone (pos n) (pos m) s (grind (arith, order))))
+multiples_in_order n m (negsuc s) d some from order = absurd (omega (arith, from))
+
 -- nor of two that are moved by deltas, if the delta of the greater is not the smaller
 pub moved_in_order : (x y d e : ℤ) → x ≤ℤ y → d ≤ℤ e
     → up (x *ℤ pos 65536 +ℤ d) 65536 ≤ℤ up (y *ℤ pos 65536 +ℤ e) 65536
@@ -150,4 +161,4 @@ scaled_back w x a (pos zero) r s wide fits first second some most fits_r = grind
 scaled_back w x a (negsuc c) r s wide fits first second some most fits_r = grind (arith, ints)
 
 -- ---- for callers
-pub ruleset order_calls = (scaled_in_order, narrowed_in_order, rounded_in_order)
+pub ruleset order_calls = (scaled_in_order, narrowed_in_order, rounded_in_order, ups_in_order, multiples_in_order)

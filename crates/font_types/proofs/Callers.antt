@@ -99,11 +99,11 @@ pub ruleset integers = (integral_rules, negation_is_integral, calls_32)
 -- for a narrowed number that fits
 pub ruleset narrowings = (exact_narrow_calls)
 
--- for `>>`, beside std's `wraps`: the floor of a quotient by a power of two, the quotient rounded half up, and the
+-- for `>>`, with std's `wraps`: the floor of a quotient by a power of two, the quotient rounded half up, and the
 -- average of two 16-bit numbers
 pub ruleset shifts = (shr_low, shr_high, shr_fits, shr_up, average_fits_16, average_is)
 
--- for the order of two numbers that are scaled, narrowed or rounded
+-- for the order of two results of `mul_div`; with `calls`, of two numbers that are scaled or rounded to integers
 pub ruleset orders = (order_calls)
 
 -- for several writes in one body

@@ -1,4 +1,4 @@
-use Rattle.std.proofs.Common.{rules, arith, ◌≡◌, refl, lit<, take}
+use Rattle.std.proofs.Common.{rules, arith, refl, lit<, take}
 use Rattle.std.specs.Ordering.{nat_cmp}
 use Rattle.font_types.specs.{Bytes.numeral, GlyphId.glyph16_number, GlyphId.glyph16_of, FWord.fword_number}
 use Rattle.font_types.specs.{FWord.fword_of, Records.record_laws, Scalar.Laws.unsigned_newtype}

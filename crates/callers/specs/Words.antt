@@ -1,0 +1,37 @@
+-- Lines of words with single spaces.
+use Rattle.std.specs.Prelude.{◌≡◌, ◌≢◌, ℕ, ◌<◌, ◌≤◌, List, ◌++◌, length, All, Option, Some, None}
+use Rattle.std.specs.Borrow.{Bor}
+use Rattle.std.specs.List.{AllWithin, HoldsAt}
+use lib.Chars.{codes}
+use Rattle.font_types.specs.{Fixed.fixed_bits, Fixed.fixed_text, Operations.ReadsBits}
+use Rattle.callers.specs.declared.words.Range.{Range}
+
+-- the text has no space
+abbrev pub HasNoSpace : List ℕ → Type 0
+HasNoSpace text = All (λ byte. byte ≢ 32) text
+
+-- the texts of three numbers, with single spaces
+abbrev pub range_text : Range → List ℕ
+range_text range =
+    fixed_text range.min ++ (codes " " ++ (fixed_text range.default ++ (codes " " ++ fixed_text range.max)))
+
+-- the index of the first space, or the length
+pub record IsWordEnd (text : List ℕ) (end : ℕ) : Type 0 where
+  pub within : end ≤ length text
+  pub before : AllWithin (λ byte. byte ≢ 32) text 0 end
+  pub there : end < length text → HoldsAt (λ byte. byte ≡ 32) text end
+
+-- the word and the rest that a text was split into
+abbrev pub IsSplit : Option (Bor (List ℕ) × Bor (List ℕ)) → List ℕ → List ℕ → Type 0
+IsSplit None word rest = ⊥
+IsSplit (Some parts) word rest = (parts.0.now ≡ word) × (parts.1.now ≡ rest)
+
+-- the text is three texts with single spaces, which are read as the numbers
+pub record AreNumbersOf (text : List ℕ) (range : Range) : Type 0 where
+  pub min : List ℕ
+  pub default : List ℕ
+  pub max : List ℕ
+  pub line : text ≡ min ++ (codes " " ++ (default ++ (codes " " ++ max)))
+  pub reads_min : ReadsBits 32 16 min (fixed_bits range.min)
+  pub reads_default : ReadsBits 32 16 default (fixed_bits range.default)
+  pub reads_max : ReadsBits 32 16 max (fixed_bits range.max)

@@ -1,0 +1,106 @@
+//! Lines of several words: three numbers with single spaces, printed and parsed.
+
+ghost use Rattle.std.specs.Prelude.{◌≡◌, ◌≤◌, ◌+◌, ◌++◌, length, take, FitsSigned, Some, IfSome};
+ghost use Rattle.std.specs.Prelude.{List, ℕ};
+ghost use Rattle.std.specs.Int.{w32};
+ghost use lib.Chars.{codes};
+ghost use Rattle.font_types.specs.{Fixed.fixed_text, Fixed.fixed_bits, Operations.ReadsBits};
+ghost use Rattle.font_types.specs.Fixed.{Fixed};
+ghost use Rattle.callers.specs.declared.words.Range.{Range};
+ghost use Rattle.callers.specs.Words.{HasNoSpace, IsSplit, IsWordEnd, range_text, AreNumbersOf};
+
+use crate::dumper::put;
+use font_types::Fixed;
+
+/// Three numbers of an axis.
+#[derive(Clone, Copy, PartialEq, Eq)]
+pub struct Range {
+    pub min: Fixed,
+    pub default: Fixed,
+    pub max: Fixed,
+}
+
+/// Writes several numbers into a buffer: three, with single spaces; the length.
+pub fn put_range(out: &mut [u8; 68], range: Range) -> usize
+    ensures bytes { take result out.new ≡ fixed_text range.min ++ codes " "
+        ++ fixed_text range.default ++ codes " " ++ fixed_text range.max }
+    ensures room { result ≤ 68 }
+{
+    let end = put(out, 0, range.min.to_decimal().as_str().as_bytes());
+    let end = put(out, end, b" ");
+    let end = put(out, end, range.default.to_decimal().as_str().as_bytes());
+    let end = put(out, end, b" ");
+    put(out, end, range.max.to_decimal().as_str().as_bytes())
+}
+
+// Shows that no space is in the text of a number.
+fn show_no_space(number: Fixed)
+    ensures { HasNoSpace (fixed_text number) }
+{
+    let _text = number.to_decimal();
+}
+
+// Finds the first space, or the end.
+fn word_end(text: &[u8]) -> usize
+    ensures { IsWordEnd text.now result }
+{
+    for (index, byte) in text.iter().enumerate() {
+        if *byte == b' ' {
+            return index;
+        }
+    }
+    text.len()
+}
+
+/// Splits a text at its first space: a word and the rest.
+pub fn split_word(text: &[u8]) -> Option<(&[u8], &[u8])>
+    ensures parts { IfSome result (λ parts.
+        text.now ≡ parts.0.now ++ (codes " " ++ parts.1.now)) }
+    ensures word { (word rest : List ℕ) → HasNoSpace word → text.now ≡ word ++ (codes " " ++ rest)
+        → IsSplit result word rest }
+{
+    let end = word_end(text);
+    if end < text.len() {
+        Some((&text[..end], &text[end + 1..]))
+    } else {
+        None
+    }
+}
+
+// Parses a word: a number.
+fn parsed_word(word: &[u8]) -> Option<Fixed>
+    ensures reads { IfSome result (λ x. ReadsBits 32 16 word.now (fixed_bits x)) }
+    ensures printed { (x : Fixed) → FitsSigned w32 (fixed_bits x)
+        → word.now ≡ fixed_text x → result ≡ Some x }
+{
+    Fixed::from_decimal_bytes(word).ok()
+}
+
+/// Parses several numbers with single spaces: three, or `None` if a text is not that.
+///
+/// `parts` says what is read, and `printed` that each printed line is.
+pub fn parsed_range(text: &[u8]) -> Option<Range>
+    ensures parts { IfSome result (λ range. AreNumbersOf text.now range) }
+    ensures printed { (range : Range) → FitsSigned w32 (fixed_bits range.min)
+        → FitsSigned w32 (fixed_bits range.default) → FitsSigned w32 (fixed_bits range.max)
+        → HasNoSpace (fixed_text range.min) → HasNoSpace (fixed_text range.default)
+        → text.now ≡ range_text range → result ≡ Some range }
+{
+    let (min, rest) = split_word(text)?;
+    let (default, max) = split_word(rest)?;
+    let min = parsed_word(min)?;
+    let default = parsed_word(default)?;
+    let max = parsed_word(max)?;
+    Some(Range { min, default, max })
+}
+
+/// Writes numbers and parses them: themselves.
+pub fn range_again(range: Range) -> Option<Range>
+    ensures { result ≡ Some range }
+{
+    let mut out = [0; 68];
+    let end = put_range(&mut out, range);
+    show_no_space(range.min);
+    show_no_space(range.default);
+    parsed_range(&out[..end])
+}
