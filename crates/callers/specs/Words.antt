@@ -1,6 +1,5 @@
 -- Lines of words with single spaces.
-use Rattle.std.specs.Prelude.{◌≡◌, ◌≢◌, ℕ, ◌<◌, ◌≤◌, List, ◌++◌, length, All, Option, Some, None}
-use Rattle.std.specs.Borrow.{Bor}
+use Rattle.std.specs.Prelude.{◌≡◌, ◌≢◌, ℕ, ◌<◌, ◌≤◌, List, ◌++◌, length, All}
 use Rattle.std.specs.List.{AllWithin, HoldsAt}
 use lib.Chars.{codes}
 use Rattle.font_types.specs.{Fixed.fixed_bits, Fixed.fixed_text, Operations.ReadsBits}
@@ -20,11 +19,6 @@ pub record IsWordEnd (text : List ℕ) (end : ℕ) : Type 0 where
   pub within : end ≤ length text
   pub before : AllWithin (λ byte. byte ≢ 32) text 0 end
   pub there : end < length text → HoldsAt (λ byte. byte ≡ 32) text end
-
--- the word and the rest that a text was split into
-abbrev pub IsSplit : Option (Bor (List ℕ) × Bor (List ℕ)) → List ℕ → List ℕ → Type 0
-IsSplit None word rest = ⊥
-IsSplit (Some parts) word rest = (parts.0.now ≡ word) × (parts.1.now ≡ rest)
 
 -- the text is three texts with single spaces, which are read as the numbers
 pub record AreNumbersOf (text : List ℕ) (range : Range) : Type 0 where

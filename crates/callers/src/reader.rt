@@ -344,6 +344,7 @@ pub fn written_variant(cmap: &mut [u8], at: usize, variant: Variant) -> Option<V
 }
 
 /// Reads the number of a first field of 24 bits: a character of `cmap`.
+#[tactic(auto, using(font_types::proofs::Callers::firsts_24, font_types::proofs::Callers::calls))]
 pub fn character_at(cmap: &[u8], at: usize) -> Option<Uint24>
     ensures variant { IsSome result ↔ (at + 5 ≤ length cmap.now) }
     ensures value { IfSome result (λ character.

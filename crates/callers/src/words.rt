@@ -1,13 +1,13 @@
 //! Lines of several words: three numbers with single spaces, printed and parsed.
 
-ghost use Rattle.std.specs.Prelude.{◌≡◌, ◌≤◌, ◌+◌, ◌++◌, length, take, FitsSigned, Some, IfSome};
+ghost use Rattle.std.specs.Prelude.{◌≡◌, ◌≤◌, ◌+◌, ◌++◌, length, take, FitsSigned, Some, IsSome, IfSome};
 ghost use Rattle.std.specs.Prelude.{List, ℕ};
 ghost use Rattle.std.specs.Int.{w32};
 ghost use lib.Chars.{codes};
 ghost use Rattle.font_types.specs.{Fixed.fixed_text, Fixed.fixed_bits, Operations.ReadsBits};
 ghost use Rattle.font_types.specs.Fixed.{Fixed};
 ghost use Rattle.callers.specs.declared.words.Range.{Range};
-ghost use Rattle.callers.specs.Words.{HasNoSpace, IsSplit, IsWordEnd, range_text, AreNumbersOf};
+ghost use Rattle.callers.specs.Words.{HasNoSpace, IsWordEnd, range_text, AreNumbersOf};
 
 use crate::dumper::put;
 use font_types::Fixed;
@@ -57,7 +57,7 @@ pub fn split_word(text: &[u8]) -> Option<(&[u8], &[u8])>
     ensures parts { IfSome result (λ parts.
         text.now ≡ parts.0.now ++ (codes " " ++ parts.1.now)) }
     ensures word { (word rest : List ℕ) → HasNoSpace word → text.now ≡ word ++ (codes " " ++ rest)
-        → IsSplit result word rest }
+        → IsSome result × IfSome result (λ parts. (parts.0.now ≡ word) × (parts.1.now ≡ rest)) }
 {
     let end = word_end(text);
     if end < text.len() {

@@ -13,6 +13,7 @@ use Rattle.font_types.proofs.Parts.{part_calls, unit_calls, between_calls, lerp_
 use Rattle.font_types.proofs.Ratios.{ratio_calls}
 use Rattle.font_types.proofs.Narrowed.{exact_narrow_calls, exact_sum_is_integral, negation_is_integral}
 use Rattle.font_types.proofs.{Searches.search_calls, StoredBytes.stored_calls, ShortProducts.short_product_calls}
+use Rattle.font_types.proofs.StoredBytes.{first_24_calls}
 use Rattle.font_types.proofs.{ArrayNumbers.array_number_calls, Below.below_calls, Writes.write_calls}
 use Rattle.font_types.proofs.Fields.{field_calls, record_calls, other_record_calls, header_calls}
 use Rattle.font_types.proofs.Fields.{rest_calls, beyond_calls}
@@ -108,6 +109,9 @@ pub ruleset orders = (order_calls)
 
 -- for several writes in one body
 pub ruleset writes = (write_calls)
+
+-- for the number of a first field of 24 bits
+pub ruleset firsts_24 = (first_24_calls)
 
 -- for what stands in the rest of a slice: by `get(k..)`, and by `follow`
 pub ruleset rests = (rest_calls)

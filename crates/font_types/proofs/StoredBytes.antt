@@ -67,15 +67,6 @@ module _ (m : ℕ) (rest bytes : List ℕ) where
       → int24_number n ≡ signed_numeral 3 (take 3 bytes)
   int24_first_read n is some = int24_first rest (take m bytes) n is ∙ ap (signed_numeral 3) (take-take 3 m bytes some)
 
-pub ruleset stored_calls = (
-  is_stored,
-  equals_stored,
-  shortest_read_4,
-  shortest_read_2,
-  uint24_of_read,
-  int24_of_read,
-  uint24_first,
-  int24_first,
-  uint24_first_read,
-  int24_first_read,
-)
+pub ruleset stored_calls = (is_stored, equals_stored, shortest_read_4, shortest_read_2, uint24_of_read, int24_of_read)
+
+pub ruleset first_24_calls = (uint24_first, int24_first, uint24_first_read, int24_first_read)

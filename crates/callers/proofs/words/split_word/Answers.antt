@@ -1,4 +1,4 @@
-use Rattle.std.proofs.Common.{◌≡◌, ◌∙◌, sym, ap, suc, ◌<◌, ◌+◌, [], ◌∷◌, ◌++◌, length, take, drop, arith, append_assoc}
+use Rattle.std.proofs.Common.{◌≡◌, ◌∙◌, refl, sym, ap, suc, ◌<◌, ◌+◌, [], ◌∷◌, ◌++◌, length, take, drop, arith, append_assoc}
 use Rattle.std.proofs.lemmas.List.{take_at, drop_at, take_rest, length-append, drop_more, take-append-drop}
 use Rattle.callers.proofs.Spaces.{end_is}
 use Rattle.callers.proofs.words.split_word.Goals as goal
@@ -17,9 +17,12 @@ returns-then-end-text c =
       word = λ word rest no_space split.
           let n = end_is text word rest end c.word_end-end.ensures no_space split in
           let regrouped : text ≡ (word ++ (32 ∷ [])) ++ rest = split ∙ sym (append_assoc word (32 ∷ []) rest) in (
-            ap (take end) split ∙ take_at word (32 ∷ rest) end (sym n),
-            take_rest text (end + 1) ∙ ap (drop (end + 1)) regrouped
-                ∙ drop_at (word ++ (32 ∷ [])) rest (end + 1) (length-append word (32 ∷ []) ∙ omega (arith, n)),
+            refl,
+            (
+              ap (take end) split ∙ take_at word (32 ∷ rest) end (sym n),
+              take_rest text (end + 1) ∙ ap (drop (end + 1)) regrouped
+                  ∙ drop_at (word ++ (32 ∷ [])) rest (end + 1) (length-append word (32 ∷ []) ∙ omega (arith, n)),
+            ),
           );
     }
 
@@ -30,5 +33,5 @@ returns-else-end-text c = record {
       let n = end_is c.args.text.now word rest c.word_end-end.result c.word_end-end.ensures no_space split in
       let long : length c.args.text.now ≡ length word + suc (length rest) =
       ap length split ∙ length-append word (32 ∷ rest) in
-      omega (arith, n, long, c.if-end-text.false);
+      (absurd (omega (arith, n, long, c.if-end-text.false)), tt);
 }
