@@ -2,7 +2,7 @@
 
 ghost use Rattle.std.specs.Prelude.{◌≡◌, ◌≢◌, ◌↔◌, ◌≤◌, ◌<◌, ◌+◌, ◌*◌, ◌^◌, ◌&&◌, ◌++◌, pos};
 ghost use Rattle.std.specs.Prelude.{IsSome, IfSome, IfNone, MatchOption, Some, ℕ, length, take};
-ghost use Rattle.std.specs.Prelude.{drop, true, refl, nat_lt};
+ghost use Rattle.std.specs.Prelude.{drop, true, refl, nat_lt, ◌+ℤ◌, ◌-ℤ◌, IsTrue, bit_and};
 ghost use Rattle.std.specs.Ordering.{nat_cmp};
 ghost use Rattle.std.proofs.Common.{lit<};
 ghost use Rattle.font_types.specs.Bytes.{numeral, signed_numeral, bytes_of};
@@ -62,6 +62,31 @@ pub fn default_origin(vorg: &[u8]) -> Option<FWord>
         ≡ signed_numeral 2 (take 2 (drop 4 (take 8 vorg.now)))) }
 {
     Some(TableDataRef::<Origins>::new(vorg)?.header().default.get())
+}
+
+/// Reads fields and adds them: the height of a line, by `hhea`, or `None` for under 10 bytes.
+///
+/// The answers search longer than the check, which gives up at the goals of the sum.
+pub fn line_height(hhea: &[u8]) -> Option<i32>
+    ensures variant { IsSome result ↔ (10 ≤ length hhea.now) }
+    ensures value { IfSome result (λ height. height
+        ≡ (signed_numeral 2 (take 2 (drop 4 hhea.now))
+        -ℤ signed_numeral 2 (take 2 (drop 6 hhea.now)))
+        +ℤ signed_numeral 2 (take 2 (drop 8 hhea.now))) }
+{
+    let ascender = FWord::read_at(hhea, 4)?;
+    let descender = FWord::read_at(hhea, 6)?;
+    let gap = FWord::read_at(hhea, 8)?;
+    Some(i32::from(ascender.to_i16()) - i32::from(descender.to_i16()) + i32::from(gap.to_i16()))
+}
+
+/// Reads a flag: whether a font is bold, by `macStyle` of `head`, or `None` for under 46 bytes.
+pub fn is_bold(head: &[u8]) -> Option<bool>
+    ensures variant { IsSome result ↔ (46 ≤ length head.now) }
+    ensures value { IfSome result (λ bold. IsTrue bold
+        ↔ (bit_and (numeral (take 2 (drop 44 head.now))) 1 ≢ 0)) }
+{
+    Some(u16::read_at(head, 44)? & 1 != 0)
 }
 
 /// A record of two fields: the vertical origin of a glyph. By `record_laws` and the laws of its

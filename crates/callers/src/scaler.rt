@@ -1,7 +1,7 @@
 //! A scaler of outlines: points through two matrices, and numbers of font units on a grid.
 
 ghost use Rattle.std.specs.Prelude.{◌≡◌, ◌*◌, ◌^◌, pos, ◌+ℤ◌, ◌-ℤ◌, ◌*ℤ◌, ◌≤ℤ◌, ◌<ℤ◌, length};
-ghost use Rattle.std.specs.Prelude.{◌↔◌, ◌≤◌, IsSome, IfSome};
+ghost use Rattle.std.specs.Prelude.{◌↔◌, ◌≤◌, IsSome, IfSome, unsigned_abs};
 ghost use Rattle.font_types.specs.FixedMatrix.{matrix_bits, point_bits, exact_image, IsWithin};
 ghost use Rattle.font_types.specs.FixedMatrix.{FitsComposed, IsCloseComposed, IsBounded};
 ghost use Rattle.font_types.specs.FixedMatrix.{FitsInTurn, IsCloseInTurn, IsBoundedPoint};
@@ -98,6 +98,24 @@ pub fn half_line(y: F26Dot6) -> F26Dot6
     y.floor() + F26Dot6::from_bits(32)
 }
 
+// Adds and subtracts three integers: the right edge of a glyph.
+#[tactic(auto, using(std::proofs::lemmas::Int::wraps))]
+fn right_edge(left: FWord, x_min: i16, x_max: i16) -> i32
+    ensures { result ≡ (fword_number left +ℤ (x_max -ℤ x_min)) }
+{
+    i32::from(left.to_i16()) + (i32::from(x_max) - i32::from(x_min))
+}
+
+/// Adds and subtracts four integers: the space at the right of a glyph, by `hmtx` and its box.
+///
+/// A sum of three of them is a function of its own, with std's `wraps` in place of `calls`.
+pub fn right_side_bearing(advance: UfWord, left: FWord, x_min: i16, x_max: i16) -> i32
+    ensures { result
+        ≡ (pos (ufword_number advance) -ℤ (fword_number left +ℤ (x_max -ℤ x_min))) }
+{
+    i32::from(advance.to_u16()) - right_edge(left, x_min, x_max)
+}
+
 /// Rounds by a shift: the middle of two coordinates in font units, rounded down.
 ///
 /// The ruleset `shifts` has the bounds of `>>`, besides std's `wraps`.
@@ -143,6 +161,25 @@ pub fn blend(from: Fixed, to: Fixed, t: Fixed) -> Fixed
         +ℤ near ((fixed_bits to -ℤ fixed_bits from) *ℤ fixed_bits t) 65536) }
 {
     from + (to - from) * t
+}
+
+/// Interpolates: the delta of a point between two points that have deltas.
+///
+/// The ruleset `lerps` has the value for each order of the two deltas.
+#[tactic(auto, using(font_types::proofs::Callers::calls, font_types::proofs::Callers::lerps))]
+pub fn interpolated(a: Fixed, b: Fixed, at: Fixed, from: Fixed, to: Fixed) -> Fixed
+    requires between { (fixed_bits a ≤ℤ fixed_bits at) × (fixed_bits at ≤ℤ fixed_bits b)
+        × (fixed_bits a <ℤ fixed_bits b) }
+    requires span { FitsBits 32 (fixed_bits b -ℤ fixed_bits a) }
+    requires rise { FitsBits 32 (fixed_bits to -ℤ fixed_bits from) }
+    ensures up { fixed_bits from ≤ℤ fixed_bits to → fixed_bits result ≡ (fixed_bits from
+        +ℤ near ((fixed_bits to -ℤ fixed_bits from) *ℤ (fixed_bits at -ℤ fixed_bits a))
+        (unsigned_abs (fixed_bits b -ℤ fixed_bits a))) }
+    ensures down { fixed_bits to ≤ℤ fixed_bits from → fixed_bits result ≡ (fixed_bits from
+        +ℤ near ((fixed_bits to -ℤ fixed_bits from) *ℤ (fixed_bits at -ℤ fixed_bits a))
+        (unsigned_abs (fixed_bits b -ℤ fixed_bits a))) }
+{
+    from + (to - from).mul_div(at - a, b - a)
 }
 
 /// Scales two values, in order: edges by one ratio, which keeps their order if neither overflows.
