@@ -4,8 +4,8 @@ use Rattle.std.proofs.Common.{◌≤ℤ◌, ◌<ℤ◌, arith, pow_pos, SFits, t
 use Rattle.std.proofs.lemmas.Int.{ints, by_lt_z, to_z-of_z}
 use Rattle.std.specs.Int.{Width}
 use mir.Val.{bits, hbits}
-use Rattle.font_base.specs.{Wrap.wrap, Wrap.FitsBits, Wrap.Laws.wrap_is, Wrap.Laws.wrap_gives, Integers.sum-times}
-use Rattle.font_base.specs.{Integers.product-times}
+use Rattle.font_base.specs.{Wrap.wrap, Wrap.FitsBits, Wrap.Laws.wrap_is, Wrap.Laws.wrap_gives, Wrap.Laws.wrap-fits}
+use Rattle.font_base.specs.{Integers.sum-times, Integers.product-times}
 use Rattle.font_base.proofs.Widths.{bits_positive, half_range-bits}
 use Rattle.font_decimal.proofs.Integers.{neg-times, times_monotone}
 use Rattle.font_fixed.specs.Operations.{IsFloor, IsCeiling, IsWrappedCeiling, floor_of, ceiling_of}
@@ -74,6 +74,18 @@ ceiling_wraps w m f x s r all few is floor =
         differs = omega (arith, ints, sum, apart, floor.bits);
       });
     }
+
+-- the same by its bounds, if a step less one unit more fits
+pub ceiling_kept : (w : Width) (m f : ℕ) (x s r : ℤ) → m ≡ 2 ^ bits w → f + 2 ≤ bits w
+    → s ≡ wrap (bits w) (x +ℤ to_z w (of_z w (to_z w (1 * 2 ^ f % m) -ℤ pos 1))) → IsFloor f s r
+    → FitsBits (bits w) (x +ℤ pos (2 ^ f - 1)) → (x ≤ℤ r) × (r <ℤ (x +ℤ pos (2 ^ f)))
+ceiling_kept w m f x s r all few is floor fits =
+    let moved = rw (rest_is w m f all few) at is in
+    let less : pos (2 ^ f - 1) ≡ (pos (2 ^ f) -ℤ pos 1) = omega (arith, ints, pow_pos f) in
+    let kept = rw less at fits in
+    let sum = moved ∙ wrap-fits (bits w) (x +ℤ (pos (2 ^ f) -ℤ pos 1)) (bits_positive w) kept in
+    let ceiling = floor_is_ceiling f x s r (omega (arith, ints, sum)) floor in
+    (ceiling.low, ceiling.high)
 
 -- a step less one unit is added, if that fits
 pub ceiling_is : (w : Width) (m f : ℕ) (x s r : ℤ) → m ≡ 2 ^ bits w → f + 2 ≤ bits w

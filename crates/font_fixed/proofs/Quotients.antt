@@ -1,6 +1,6 @@
 -- Quotients rounded half away from zero, as code computes them: by magnitudes, with the sign set at the end and 32 bits
 -- kept.
-use Rattle.std.proofs.Common.{◌≡◌, ◌≢◌, ℕ, zero, ◌-◌, ◌*◌, ◌^◌, ◌<◌, Bool, not, ℤ, pos, unsigned_abs, arith}
+use Rattle.std.proofs.Common.{◌≡◌, ◌≢◌, ℕ, ◌-◌, ◌*◌, ◌^◌, ◌<◌, Bool, not, ℤ, pos, unsigned_abs, arith}
 use Rattle.std.proofs.lemmas.Bool.Decides.{nat_tests}
 use Rattle.std.specs.Int.{is_negative}
 use Rattle.font_base.specs.{Wrap.wrap, Wrap.Laws.wrap-fits}
@@ -27,3 +27,7 @@ signed_is_rounded x a c s t m i j k both one first second third some near = grin
 pub wrapped_is_mul_div : (x a c q : ℤ) → (c ≢ pos 0 → q ≡ rounded_mul_div x a c)
     → (c ≡ pos 0 → q ≡ signed (differ_in_sign x a) (2 ^ 31 - 1)) → IsMulDiv 32 x a c (wrap 32 q)
 wrapped_is_mul_div x a c q nearest by_zero = grind (arith, wrap-fits, near_is)
+
+-- and back: `mul_div` by a number other than 0
+pub mul_div_is : (x a c r : ℤ) → c ≢ pos 0 → IsMulDiv 32 x a c r → r ≡ wrap 32 (rounded_mul_div x a c)
+mul_div_is x a c r some is = grind arith

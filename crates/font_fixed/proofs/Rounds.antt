@@ -101,6 +101,17 @@ nearest_is w m f x s r all many few is floor =
     let nearest : Up x (2 ^ f) floor.whole = record { low = omega (arith, ints); high = omega (arith, ints) } in
     floor.bits ∙ ap (λ z. z *ℤ pos (2 ^ f)) (up_gives x (2 ^ f) floor.whole (pow_pos f) nearest)
 
+-- the nearest integer by its bounds, as code returns it
+pub rounded_bounds : (w : Width) (f : ℕ) (x r : ℤ) → 6 ≤ f → SFits w r → r ≡ rounded f x
+    → (to_z w (of_z w r) ≤ℤ (x +ℤ pos (2 ^ f / 2)))
+    × ((x +ℤ pos (2 ^ f / 2)) <ℤ (to_z w (of_z w r) +ℤ pos (2 ^ f)))
+rounded_bounds w f x r many fits is =
+    let two = two_halves f many in
+    let nearest = up_is x (2 ^ f) (pow_pos f) in
+    let next = times-next (up x (2 ^ f)) (2 ^ f) in
+    let same = to_z-of_z w r fits in
+    (omega (arith, ints, same, is, two, nearest.low), omega (arith, ints, same, is, two, next, nearest.high))
+
 -- if half a step more does not fit, neither does the nearest integer
 pub no_nearest : (w : Width) (m f : ℕ) (x : ℤ) → m ≡ 2 ^ bits w → 6 ≤ f → f + 2 ≤ bits w → SFits w x
     → (SFits w (x +ℤ to_z w (1 * 2 ^ (f - 1) % m)) → ⊥) → FitsBits (bits w) (rounded f x) → ⊥

@@ -1,5 +1,5 @@
 -- 26.6 fixed-point numbers: the unit of scaled outlines, and not stored in any table.
-use Rattle.std.specs.Prelude.{ℕ, ℤ, List}
+use Rattle.std.specs.Prelude.{ℕ, ℤ, List, pos, neg_ℤ, ◌^◌}
 use Rattle.font_decimal.specs.Shortest.{shortest_text}
 use Rattle.font_fixed.specs.declared.fixed_i32.FixedI32.{FixedI32}
 
@@ -18,3 +18,13 @@ f26dot6_of bits = record { 0 = bits }
 -- the printed text of an `F26Dot6`: its shortest decimal
 abbrev pub f26dot6_text : F26Dot6 → List ℕ
 f26dot6_text x = shortest_text (f26dot6_bits x) 6
+
+-- constants that clauses name after `ghost use` of this module: `F26Dot6.ONE`
+abbrev pub ZERO : F26Dot6
+ZERO = f26dot6_of (pos 0)
+
+abbrev pub ONE : F26Dot6
+ONE = f26dot6_of (pos (2 ^ 6))
+
+abbrev pub NEG_ONE : F26Dot6
+NEG_ONE = f26dot6_of (neg_ℤ (pos (2 ^ 6)))

@@ -21,6 +21,9 @@ abbrev pub f2dot14_text : F2Dot14 → List ℕ
 f2dot14_text x = shortest_text (f2dot14_bits x) 14
 
 -- constants that clauses name after `ghost use` of this module: `F2Dot14.ONE`
+abbrev pub ZERO : F2Dot14
+ZERO = f2dot14_of (pos 0)
+
 abbrev pub ONE : F2Dot14
 ONE = f2dot14_of (pos (2 ^ 14))
 

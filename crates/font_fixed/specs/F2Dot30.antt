@@ -1,5 +1,5 @@
 -- 2.30 fixed-point numbers. No table of OpenType stores them.
-use Rattle.std.specs.Prelude.{ℕ, ℤ, List}
+use Rattle.std.specs.Prelude.{ℕ, ℤ, List, pos, neg_ℤ, ◌^◌}
 use Rattle.font_decimal.specs.Shortest.{shortest_text}
 use Rattle.font_fixed.specs.declared.fixed_i32.FixedI32.{FixedI32}
 
@@ -18,3 +18,13 @@ f2dot30_of bits = record { 0 = bits }
 -- the printed text of an `F2Dot30`: its shortest decimal
 abbrev pub f2dot30_text : F2Dot30 → List ℕ
 f2dot30_text x = shortest_text (f2dot30_bits x) 30
+
+-- constants that clauses name after `ghost use` of this module: `F2Dot30.ONE`
+abbrev pub ZERO : F2Dot30
+ZERO = f2dot30_of (pos 0)
+
+abbrev pub ONE : F2Dot30
+ONE = f2dot30_of (pos (2 ^ 30))
+
+abbrev pub NEG_ONE : F2Dot30
+NEG_ONE = f2dot30_of (neg_ℤ (pos (2 ^ 30)))

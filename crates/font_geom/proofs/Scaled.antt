@@ -18,9 +18,21 @@ units_fit u s few fits =
     let nearest = near_is (u *ℤ s) 65536 (lit< tt) in
     omega (arith, ints, nearest.close, unsigned_abs-mul u s, most)
 
+-- of 16-bit units, in 31 bits
+pub word_bounded : (u s : ℤ) → SFits w16 u → SFits w32 s → unsigned_abs (rounded_product u s) ≤ 2 ^ 30
+word_bounded u s few fits =
+    let size : unsigned_abs s ≤ 2 ^ 31 = omega (arith, ints, fits) in
+    let units : unsigned_abs u ≤ 32768 = omega (arith, ints, few) in
+    let most : unsigned_abs u * unsigned_abs s ≤ 32768 * 2 ^ 31 =
+    omega (arith, mul-le-mul_right (unsigned_abs s) units, size) in
+    let nearest = near_is (u *ℤ s) 65536 (lit< tt) in
+    omega (arith, ints, nearest.close, unsigned_abs-mul u s, most)
+
 pub word_unwrapped : (u s : ℤ) → SFits w16 u → SFits w32 s → wrap 32 (rounded_product u s) ≡ rounded_product u s
 word_unwrapped u s few fits =
     wrap-fits 32 (rounded_product u s) (lit< tt) (units_fit u s (omega (arith, ints, few)) fits)
+
+pub ruleset word_calls = (word_unwrapped, word_bounded)
 
 -- ---- the distance
 

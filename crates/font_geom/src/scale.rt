@@ -1,6 +1,6 @@
 //! Scales of outlines.
 
-ghost use Rattle.std.specs.Prelude.{◌≡◌, ◌≢◌, ◌↔◌, ◌≤◌, IsSome, IfSome, unsigned_abs};
+ghost use Rattle.std.specs.Prelude.{◌≡◌, ◌≢◌, ◌↔◌, ◌^◌, ◌≤◌, IsSome, IfSome, unsigned_abs};
 ghost use Rattle.font_base.specs.Wrap.{FitsBits};
 ghost use Rattle.font_fixed.specs.{F26Dot6.f26dot6_bits, Fixed.fixed_bits};
 ghost use Rattle.font_geom.specs.FixedMatrix.{rounded_product, FitsPoint};
@@ -63,9 +63,11 @@ impl Scale {
     /// result overflows.
     // #[doc(alias = "FT_MulFix")]
     #[inline(always)]
-    #[tactic(auto, using(crate::proofs::Scaled::word_unwrapped))]
+    #[tactic(auto, using(crate::proofs::Scaled::word_calls))]
     pub const fn apply(self, units: i16) -> F26Dot6
-        ensures { f26dot6_bits result ≡ rounded_product units (scale_bits self) }
+        ensures value { f26dot6_bits result ≡ rounded_product units (scale_bits self) }
+        // For proofs.
+        ensures bound { unsigned_abs (f26dot6_bits result) ≤ 2 ^ 30 }
     {
         F26Dot6::from_bits(product(units as i32, self.0.to_bits(), 16))
     }
@@ -90,6 +92,9 @@ impl Scale {
     pub const fn apply_point(self, point: Point<i16>) -> Point<F26Dot6>
         ensures x { f26dot6_bits result.x ≡ rounded_product point.x (scale_bits self) }
         ensures y { f26dot6_bits result.y ≡ rounded_product point.y (scale_bits self) }
+        // For proofs.
+        ensures bound { (unsigned_abs (f26dot6_bits result.x) ≤ 2 ^ 30)
+            × (unsigned_abs (f26dot6_bits result.y) ≤ 2 ^ 30) }
     {
         Point::new(self.apply(point.x), self.apply(point.y))
     }

@@ -28,7 +28,7 @@ pub use Rattle.font_decimal.proofs.Order.{order_of_readings}
 pub use Rattle.font_decimal.proofs.Printed.{shortest_is}
 pub use Rattle.font_decimal.proofs.Printed.{printed_is_read, printed_reads_once, same_value, printed_is_not_minus_zero}
 pub use Rattle.font_decimal.proofs.Printed.{zero_ends_no_fraction}
-pub use Rattle.font_fixed.proofs.Small.{product_near}
+pub use Rattle.font_fixed.proofs.{Small.product_near, Quotients.mul_div_is}
 pub use Rattle.font_fixed.proofs.Orders
 pub use Rattle.font_fixed.proofs.Group
 pub use Rattle.font_fixed.proofs.NumberLaws as Laws
@@ -91,8 +91,9 @@ pub ruleset calls = (
   shortest_is,
 )
 
--- for the value of `a + (b - a) * t`, as one formula; of `(x - p) / (q - p)`; and of `mul_div` by such a quotient
-pub ruleset lerps = (lerp_calls, ratio_calls)
+-- for the value of `a + (b - a) * t`, as one formula; of `(x - p) / (q - p)`; of `mul_div` by such a quotient, and of
+-- any `mul_div` by a number other than 0
+pub ruleset lerps = (lerp_calls, ratio_calls, mul_div_is)
 
 -- for `IsIntegral` of the greater of two integers, of a negation, or of a sum with a constant or with halves
 pub ruleset integers = (integral_rules, negation_is_integral, calls_32)

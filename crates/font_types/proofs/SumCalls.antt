@@ -9,7 +9,7 @@ use Rattle.font_base.proofs.{Moved.bytes_moved, Widths.int_wrap-wrap}
 use Rattle.font_base.specs.Wrap.{wrap, FitsBits, half_range}
 use Rattle.font_base.specs.Wrap.Laws.{wrap-add_left, wrap-add_right, wrap-fits, wrap-wrap}
 use Rattle.font_decimal.specs.Near.{signed}
-use Rattle.font_fixed.proofs.{Calls.fits_16, Wrapped.wrapping_add-wrap, FixedCalls.fixed_calls}
+use Rattle.font_fixed.proofs.{Calls.fits_16, Wrapped.wrapping_add-wrap, FixedCalls.fixed_calls, Quotients.mul_div_is}
 use Rattle.font_fixed.specs.Operations.{IsMulDiv, rounded_mul_div}
 use Rattle.font_fixed.specs.{Fixed.Fixed, Fixed.fixed_bits, F26Dot6.f26dot6_bits, F48Dot16.f48dot16_bits}
 use Rattle.font_geom.specs.declared.point.Point.{Point}
@@ -193,11 +193,6 @@ one_more_scaled a c xs i d sum one next within so_far by is =
     let split = wrap-add_right 32 (wrap 32 (total (scaled a c) (take i xs))) (scaled a c (get_or xs i d)) (lit< tt) in
     is ∙ rw (so_far, kept) (split ∙ more)
 
-divided_once : (x a c r : ℤ) → pos 0 <ℤ c → IsMulDiv 32 x a c r → r ≡ wrap 32 (rounded_mul_div x a c)
-divided_once x a (pos zero) r some given = absurd (omega (arith, ints, some))
-divided_once x a (pos (suc c)) r some given = given.is
-divided_once x a (negsuc c) r some given = given.is
-
 -- the sum of products with one factor
 times_total : (a : ℤ) (xs : List Fixed) → total (λ x. fixed_bits x *ℤ a) xs ≡ (total fixed_bits xs *ℤ a)
 times_total a xs = total-times fixed_bits a xs
@@ -217,7 +212,7 @@ pub scaled_sums_close : (a c : ℤ) (xs : List Fixed) (r sum s : ℤ) → pos 0 
 scaled_sums_close a c xs r sum s some first second third fits_r fits_sum fits_s =
     let kept_r : r ≡ total (scaled a c) xs = first ∙ wrap-fits 32 (total (scaled a c) xs) (lit< tt) fits_r in
     let kept_sum : sum ≡ total fixed_bits xs = second ∙ wrap-fits 32 (total fixed_bits xs) (lit< tt) fits_sum in
-    let once = divided_once sum a c s some third in
+    let once = mul_div_is sum a c s (λ none. omega (arith, ints, some, none)) third in
     let kept_s : s ≡ rounded_mul_div (total fixed_bits xs) a c =
     once ∙ ap (λ n. wrap 32 (rounded_mul_div n a c)) kept_sum
     ∙ wrap-fits 32 (rounded_mul_div (total fixed_bits xs) a c) (lit< tt) fits_s in

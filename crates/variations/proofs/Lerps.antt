@@ -1,13 +1,10 @@
 -- The value on the line through two mappings, if nothing overflows.
 use Rattle.std.proofs.Common.{◌≡◌, ◌≢◌, ◌∙◌, ap, lit<, ℤ, pos, ◌+ℤ◌, arith}
-use Rattle.font_types.specs.Operations.{IsMulDiv, rounded_mul_div}
+use Rattle.font_types.specs.Operations.{IsMulDiv}
 use Rattle.font_types.specs.{Wrap.wrap, Wrap.FitsBits, Wrap.Laws.wrap-add_right, Fixed.fixed_bits, Fixed.Fixed}
-use Rattle.font_types.proofs.Callers.{wrap-fits}
+use Rattle.font_types.proofs.Callers.{mul_div_is, wrap-fits}
 use Rattle.variations.specs.declared.evaluator.AxisValueMap.{AxisValueMap}
 use Rattle.variations.specs.Evaluator.{IsLerp, FitsLerp, lerp_part, lerp_whole, lerp_rise, on_line}
-
-wrapped_share : (x a c r : ℤ) → c ≢ pos 0 → IsMulDiv 32 x a c r → r ≡ wrap 32 (rounded_mul_div x a c)
-wrapped_share x a c r some is = grind arith
 
 module _ (coordinate : Fixed) (start end : AxisValueMap) (result : Fixed) (share : ℤ)
     (some : lerp_whole start end ≢ pos 0)
@@ -20,7 +17,7 @@ module _ (coordinate : Fixed) (start end : AxisValueMap) (result : Fixed) (share
   exact : FitsLerp coordinate start end → fixed_bits result ≡ on_line coordinate start end
   exact fits =
       let is = rw (fitting _ fits.rise, fitting _ fits.part, fitting _ fits.whole) at is_share in
-      let value = wrapped_share (lerp_rise start end) (lerp_part coordinate start) _ share some is in
+      let value = mul_div_is (lerp_rise start end) (lerp_part coordinate start) _ share some is in
       is_sum ∙ ap (λ n. wrap 32 (fixed_bits start.to_coordinate +ℤ n)) value
       ∙ wrap-add_right 32 (fixed_bits start.to_coordinate) _ (lit< tt) ∙ fitting _ fits.value
 

@@ -97,7 +97,7 @@ impl Scale {
     /// <details><summary>Contract</summary>
     ///
     /// ```text
-    /// ensures { f26dot6_bits result ≡ rounded_product units (scale_bits self) }
+    /// ensures value { f26dot6_bits result ≡ rounded_product units (scale_bits self) }
     /// ```
     /// [Notation](crate::definitions): [`f26dot6_bits`], [`rounded_product`], [`scale_bits`]
     /// </details>

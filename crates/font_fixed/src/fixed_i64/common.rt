@@ -2,7 +2,7 @@
 //! What each 64-bit fixed-point number has.
 #![tactic(auto, using(crate::proofs::Rules::number_code))]
 
-ghost use Rattle.std.specs.Prelude.{◌≡◌, ◌≤◌, ◌↔◌, ◌/◌, ◌^◌, ℤ, pos, neg_ℤ, ◌+ℤ◌, ◌-ℤ◌, ◌≤ℤ◌, ◌<ℤ◌};
+ghost use Rattle.std.specs.Prelude.{◌≡◌, ◌≤◌, ◌↔◌, ◌-◌, ◌/◌, ◌^◌, ℤ, pos, neg_ℤ, ◌+ℤ◌, ◌-ℤ◌, ◌≤ℤ◌, ◌<ℤ◌};
 ghost use Rattle.std.specs.Prelude.{[], Some, IsSome, IfSome, IfNone, length, max, unsigned_abs};
 ghost use Rattle.std.specs.{Int.w64, Fmt.padded_integral};
 ghost use Rattle.font_base.specs.{Wrap.FitsBits, Bytes.bytes_of, Bytes.signed_numeral};
@@ -175,6 +175,12 @@ where
     pub const fn checked_round(self) -> Option<Self>
         ensures variant { IsSome result ↔ FitsBits 64 (rounded F (bits_of self.entry)) }
         ensures value { IfSome result (λ whole. bits_of whole ≡ rounded F (bits_of self.entry)) }
+        // For proofs.
+        ensures whole { IfSome result (λ whole. IsIntegral F (bits_of whole)) }
+        // For proofs.
+        ensures exact { IfSome result
+            (λ whole. (bits_of whole ≤ℤ (bits_of self.entry +ℤ pos (2 ^ F / 2)))
+            × ((bits_of self.entry +ℤ pos (2 ^ F / 2)) <ℤ (bits_of whole +ℤ pos (2 ^ F)))) }
     {
         match round_bits_64(self.0, F) {
             Some(bits) => Some(Self(bits)),
@@ -187,7 +193,9 @@ where
     // #[doc(alias = "FT_PIX_FLOOR")]
     #[inline(always)]
     pub const fn floor(self) -> Self
-        ensures { IsFloor F (bits_of self.entry) (bits_of result) }
+        ensures floor { IsFloor F (bits_of self.entry) (bits_of result) }
+        // For proofs.
+        ensures whole { IsIntegral F (bits_of result) }
     {
         Self(floor_bits_64(self.0, F))
     }
@@ -197,7 +205,13 @@ where
     // #[doc(alias = "FT_PIX_CEIL")]
     #[inline(always)]
     pub const fn ceil(self) -> Self
-        ensures { IsWrappedCeiling 64 F (bits_of self.entry) (bits_of result) }
+        ensures ceiling { IsWrappedCeiling 64 F (bits_of self.entry) (bits_of result) }
+        // For proofs.
+        ensures whole { IsIntegral F (bits_of result) }
+        // For proofs.
+        ensures exact { FitsBits 64 (bits_of self.entry +ℤ pos (2 ^ F - 1))
+            → (bits_of self.entry ≤ℤ bits_of result)
+            × (bits_of result <ℤ (bits_of self.entry +ℤ pos (2 ^ F))) }
     {
         self.wrapping_add(Self((1 << F) - 1)).floor()
     }
@@ -207,6 +221,8 @@ where
     pub const fn checked_ceil(self) -> Option<Self>
         ensures variant { IsSome result ↔ FitsBits 64 (ceiling_of F (bits_of self.entry)) }
         ensures value { IfSome result (λ whole. IsCeiling F (bits_of self.entry) (bits_of whole)) }
+        // For proofs.
+        ensures whole { IfSome result (λ whole. IsIntegral F (bits_of whole)) }
     {
         match self.checked_add(Self((1 << F) - 1)) {
             Some(moved) => Some(moved.floor()),

@@ -293,7 +293,7 @@ where
     /// <details><summary>Contract</summary>
     ///
     /// ```text
-    /// ensures { IsFloor F (bits_of self.entry) (bits_of result) }
+    /// ensures floor { IsFloor F (bits_of self.entry) (bits_of result) }
     /// ```
     /// [Notation](crate::definitions): [`IsFloor`], [`bits_of`]
     /// </details>
@@ -310,7 +310,7 @@ where
     /// <details><summary>Contract</summary>
     ///
     /// ```text
-    /// ensures { IsWrappedCeiling 16 F (bits_of self.entry) (bits_of result) }
+    /// ensures ceiling { IsWrappedCeiling 16 F (bits_of self.entry) (bits_of result) }
     /// ```
     /// [Notation](crate::definitions): [`IsWrappedCeiling`], [`bits_of`]
     /// </details>

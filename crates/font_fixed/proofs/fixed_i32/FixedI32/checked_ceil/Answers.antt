@@ -14,9 +14,9 @@ returns-in-None-clause-variant g c =
 pub returns-in-Some-clause-variant : goal.returns-in-Some-clause-variant
 returns-in-Some-clause-variant g c =
     let ceiling =
-    ceiling_is w32 _ g.row.F (bits_of c.args.self) _ _ refl (search rules) (search rules) c.floor.ensures in
+    ceiling_is w32 _ g.row.F (bits_of c.args.self) _ _ refl (search rules) (search rules) c.floor.ensures.floor in
     search (rules, ceiling.is)
 
 pub returns-in-Some-clause-value : goal.returns-in-Some-clause-value
 returns-in-Some-clause-value g c =
-    ceiling_is w32 _ g.row.F (bits_of c.args.self) _ _ refl (search rules) (search rules) c.floor.ensures
+    ceiling_is w32 _ g.row.F (bits_of c.args.self) _ _ refl (search rules) (search rules) c.floor.ensures.floor

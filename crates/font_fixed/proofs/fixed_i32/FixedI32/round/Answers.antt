@@ -4,8 +4,8 @@ use Rattle.font_fixed.proofs.fixed_i32.FixedI32.round.Goals as goal
 
 pub returns-clause-nearest : goal.returns-clause-nearest
 returns-clause-nearest g c =
-    whole_is w32 _ g.row.F _ _ _ refl (search rules) (search rules) (search rules) c.floor.ensures
+    whole_is w32 _ g.row.F _ _ _ refl (search rules) (search rules) (search rules) c.floor.ensures.floor
 
 pub returns-clause-exact : goal.returns-clause-exact
 returns-clause-exact g c =
-    nearest_kept w32 _ g.row.F _ _ _ refl (search rules) (search rules) (search rules) c.floor.ensures
+    nearest_kept w32 _ g.row.F _ _ _ refl (search rules) (search rules) (search rules) c.floor.ensures.floor
