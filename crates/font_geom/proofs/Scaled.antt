@@ -69,12 +69,16 @@ ordered : (u v s : ℤ) → pos 0 ≤ℤ s → u ≤ℤ v → (u *ℤ s) ≤ℤ 
 ordered u v (pos s) positive order = times_monotone u v s order
 ordered u v (negsuc s) positive order = grind (arith, ints)
 
+-- a rule: of the results of two calls
+pub products_in_order : (u v s : ℤ) → pos 0 ≤ℤ s → u ≤ℤ v → rounded_product u s ≤ℤ rounded_product v s
+products_in_order u v s positive order =
+    near_monotone (lit< tt) (lit< tt) (near_is (u *ℤ s) 65536 (lit< tt)) (near_is (v *ℤ s) 65536 (lit< tt))
+    (times_monotone (u *ℤ s) (v *ℤ s) 65536 (ordered u v s positive order))
+
 in_order : (size u v : ℤ) (m : ℕ) → 0 < m → pos 0 ≤ℤ size → u ≤ℤ v
     → rounded_product u (factor_of size m) ≤ℤ rounded_product v (factor_of size m)
 in_order size u v m some positive order =
-    let s = factor_of size m in
-    near_monotone (lit< tt) (lit< tt) (near_is (u *ℤ s) 65536 (lit< tt)) (near_is (v *ℤ s) 65536 (lit< tt))
-    (times_monotone (u *ℤ s) (v *ℤ s) 65536 (ordered u v s (factor_not_negative size m some positive) order))
+    products_in_order u v (factor_of size m) (factor_not_negative size m some positive) order
 
 opposite_factor : (v s : ℤ) → (neg_ℤ v *ℤ s) ≡ neg_ℤ (v *ℤ s)
 opposite_factor v s =

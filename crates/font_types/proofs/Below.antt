@@ -1,5 +1,5 @@
 -- Sums over an index: the empty sum, and one term more; and hexadecimal text.
-use Rattle.std.proofs.Common.{◌≡◌, refl, ℕ, ◌+◌, ◌-◌, ℤ, pos, ◌+ℤ◌, add-one, arith}
+use Rattle.std.proofs.Common.{◌≡◌, refl, ℕ, ◌+◌, ℤ, pos, ◌+ℤ◌, add-one, arith}
 use Rattle.std.proofs.Math.IntN.{+ℤ_assoc}
 use Rattle.font_base.specs.{Wrap.wrap, Wrap.Laws.wrap-add_left}
 use Rattle.font_types.specs.Delta.{total_below}

@@ -7,12 +7,12 @@ use Rattle.font_fixed.proofs.{Shifts.shr_fits, Shifts.shr_up, FixedCalls.fixed_c
 use Rattle.font_fixed.proofs.{Integral.integral_rules, NarrowCalls.narrow_calls, NarrowCalls.quarter_neg_one}
 use Rattle.font_fixed.proofs.Orders.{order_calls}
 use Rattle.font_tags.proofs.{TagLaws.tag_calls, VersionLaws.compatible_calls}
-use Rattle.font_geom.proofs.{Bounds.bound_calls, Scaled.scaled_calls}
+use Rattle.font_geom.proofs.{Bounds.bound_calls, Scaled.scaled_calls, Scaled.products_in_order}
 use Rattle.font_types.proofs.SumCalls.{sum_calls_from, sum_calls_16, sum_calls_32, delta_rules}
 use Rattle.font_types.proofs.Parts.{part_calls, unit_calls, between_calls, lerp_calls}
 use Rattle.font_types.proofs.Ratios.{ratio_calls}
 use Rattle.font_types.proofs.Narrowed.{exact_narrow_calls, exact_sum_is_integral, negation_is_integral}
-use Rattle.font_types.proofs.{Searches.search_calls, StoredBytes.stored_calls, ShortProducts.short_product_calls}
+use Rattle.font_types.proofs.{Searches.search_calls, StoredBytes.stored_calls, Magnitudes.magnitude_calls}
 use Rattle.font_types.proofs.StoredBytes.{first_24_calls}
 use Rattle.font_types.proofs.{ArrayNumbers.array_number_calls, Below.below_calls, Writes.write_calls}
 use Rattle.font_types.proofs.Fields.{field_calls, record_calls, other_record_calls, header_calls}
@@ -78,7 +78,7 @@ pub ruleset calls = (
   delta_rules,
   below_calls,
   -- bounds of products: of font units, small integers, bounded matrices and scales
-  short_product_calls,
+  magnitude_calls,
   bound_calls,
   unit_calls,
   scaled_calls,
@@ -106,7 +106,7 @@ pub ruleset narrowings = (exact_narrow_calls)
 pub ruleset shifts = (shr_low, shr_high, shr_fits, shr_up, average_fits_16, average_is)
 
 -- for the order of two results of `mul_div`; with `calls`, of two numbers that are scaled or rounded to integers
-pub ruleset orders = (order_calls)
+pub ruleset orders = (order_calls, products_in_order)
 
 -- for several writes in one body
 pub ruleset writes = (write_calls)

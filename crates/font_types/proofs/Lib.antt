@@ -2,7 +2,7 @@ pub mod SumCalls
 pub mod StoredBytes
 pub mod Searches
 pub mod RecordSearches
-pub mod ShortProducts
+pub mod Magnitudes
 pub mod Parts
 pub mod Ratios
 pub mod Narrowed
