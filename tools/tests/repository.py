@@ -185,6 +185,9 @@ class Pages(unittest.TestCase):
             self.assertTrue(squeezed(block) in source, block)
         file, after = text("docs/CALLING.md").split("](../crates/callers/", 1)[1].split(")", 1)
         self.assertEqual(after.split("```")[1].split("\n", 1)[1], text(f"crates/callers/{file}"))
+        answers = after.split("```text\n", 1)[1].split("```")[0]
+        (place,) = re.findall(r"Rattle\.callers\.(\S+)\.Goals", answers)
+        self.assertEqual(answers, text(f"crates/callers/{place.replace('.', '/')}/Answers.antt"))
         page, mutant = text("CONTRIBUTING.md"), r"`(\S+\.edit)`:\n\n```text\n(.*?)```"
         ((file, shown),) = re.findall(mutant, page, re.DOTALL)
         self.assertEqual(shown, text(file))

@@ -65,8 +65,6 @@ pub fn default_origin(vorg: &[u8]) -> Option<FWord>
 }
 
 /// Reads fields and adds them: the height of a line, by `hhea`, or `None` for under 10 bytes.
-///
-/// The answers search longer than the check, which gives up at the goals of the sum.
 pub fn line_height(hhea: &[u8]) -> Option<i32>
     ensures variant { IsSome result ↔ (10 ≤ length hhea.now) }
     ensures value { IfSome result (λ height. height

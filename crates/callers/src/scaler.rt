@@ -1,6 +1,6 @@
 //! A scaler of outlines: points through two matrices, and numbers of font units on a grid.
 
-ghost use Rattle.std.specs.Prelude.{◌≡◌, ◌*◌, ◌^◌, pos, ◌+ℤ◌, ◌-ℤ◌, ◌*ℤ◌, ◌≤ℤ◌, ◌<ℤ◌, length};
+ghost use Rattle.std.specs.Prelude.{◌≡◌, ◌≢◌, ◌*◌, ◌^◌, pos, ◌+ℤ◌, ◌-ℤ◌, ◌*ℤ◌, ◌≤ℤ◌, ◌<ℤ◌, length};
 ghost use Rattle.std.specs.Prelude.{◌↔◌, ◌≤◌, IsSome, IfSome, unsigned_abs};
 ghost use Rattle.font_types.specs.FixedMatrix.{matrix_bits, point_bits, exact_image, IsWithin};
 ghost use Rattle.font_types.specs.FixedMatrix.{FitsComposed, IsCloseComposed, IsBounded};
@@ -98,22 +98,25 @@ pub fn half_line(y: F26Dot6) -> F26Dot6
     y.floor() + F26Dot6::from_bits(32)
 }
 
-// Adds and subtracts three integers: the right edge of a glyph.
-#[tactic(auto, using(std::proofs::lemmas::Int::wraps))]
-fn right_edge(left: FWord, x_min: i16, x_max: i16) -> i32
-    ensures { result ≡ (fword_number left +ℤ (x_max -ℤ x_min)) }
-{
-    i32::from(left.to_i16()) + (i32::from(x_max) - i32::from(x_min))
-}
-
-/// Adds and subtracts four integers: the space at the right of a glyph, by `hmtx` and its box.
-///
-/// A sum of three of them is a function of its own, with std's `wraps` in place of `calls`.
+/// Adds and subtracts integers: the space at the right of a glyph, by `hmtx` and its box.
 pub fn right_side_bearing(advance: UfWord, left: FWord, x_min: i16, x_max: i16) -> i32
     ensures { result
         ≡ (pos (ufword_number advance) -ℤ (fword_number left +ℤ (x_max -ℤ x_min))) }
 {
-    i32::from(advance.to_u16()) - right_edge(left, x_min, x_max)
+    let right = i32::from(left.to_i16()) + (i32::from(x_max) - i32::from(x_min));
+    i32::from(advance.to_u16()) - right
+}
+
+/// Scales and rounds outward: the pixels from the left edge of a glyph to its right edge.
+///
+/// The answer searches longer than the check, which gives up at the second number.
+pub fn pixel_span(x_min: i16, x_max: i16, scale: Scale) -> (F26Dot6, F26Dot6)
+    ensures left { IsIntegral 6 (f26dot6_bits result.0) }
+    ensures right { IsIntegral 6 (f26dot6_bits result.1) }
+    ensures from { f26dot6_bits result.0 ≤ℤ rounded_product x_min (scale_bits scale) }
+    ensures to { rounded_product x_max (scale_bits scale) ≤ℤ f26dot6_bits result.1 }
+{
+    (scale.apply(x_min).floor(), scale.apply(x_max).ceil())
 }
 
 /// Rounds by a shift: the middle of two coordinates in font units, rounded down.
@@ -180,6 +183,18 @@ pub fn interpolated(a: Fixed, b: Fixed, at: Fixed, from: Fixed, to: Fixed) -> Fi
         (unsigned_abs (fixed_bits b -ℤ fixed_bits a))) }
 {
     from + (to - from).mul_div(at - a, b - a)
+}
+
+/// Scales by a ratio: a value at another size, as one formula.
+///
+/// The ruleset `lerps` has the value of a `mul_div`.
+#[tactic(auto, using(font_types::proofs::Callers::calls, font_types::proofs::Callers::lerps))]
+pub fn resized(value: Fixed, size: Fixed, units: Fixed) -> Fixed
+    requires { fixed_bits units ≢ pos 0 }
+    ensures { fixed_bits result
+        ≡ wrap 32 (rounded_mul_div (fixed_bits value) (fixed_bits size) (fixed_bits units)) }
+{
+    value.mul_div(size, units)
 }
 
 /// Scales two values, in order: edges by one ratio, which keeps their order if neither overflows.
@@ -266,19 +281,7 @@ pub fn kerned_width_by_zip(advances: &[Fixed], kerning: &[Fixed]) -> Fixed
     width
 }
 
-// Scales an advance to 26.6, exactly rounded.
-fn scaled_advance(advance: UfWord, scale: Scale) -> F26Dot6
-    ensures { f26dot6_bits result
-        ≡ rounded_product (pos (ufword_number advance)) (scale_bits scale) }
-{
-    scale
-        .checked_apply_i32(i32::from(advance.to_u16()))
-        .unwrap()
-}
-
 /// Scales two numbers by a `Scale`, in order: advances, of which the wider one stays no narrower.
-///
-/// Each number is scaled by a function of its own, which states the value that the order is about.
 #[tactic(auto, using(font_types::proofs::Callers::calls, font_types::proofs::Callers::orders))]
 pub fn scaled_advances(narrow: UfWord, wide: UfWord, scale: Scale) -> (F26Dot6, F26Dot6)
     requires { pos 0 ≤ℤ scale_bits scale }
@@ -289,7 +292,12 @@ pub fn scaled_advances(narrow: UfWord, wide: UfWord, scale: Scale) -> (F26Dot6, 
     ensures order { ufword_number narrow ≤ ufword_number wide
         → f26dot6_bits result.0 ≤ℤ f26dot6_bits result.1 }
 {
-    (scaled_advance(narrow, scale), scaled_advance(wide, scale))
+    let narrow = i32::from(narrow.to_u16());
+    let wide = i32::from(wide.to_u16());
+    (
+        scale.checked_apply_i32(narrow).unwrap(),
+        scale.checked_apply_i32(wide).unwrap(),
+    )
 }
 
 /// Rounds two numbers to integers, in order: widths in whole pixels, or `None` if one overflows.

@@ -1,0 +1,6 @@
+use Rattle.std.proofs.Common.{arith, rules}
+use Rattle.font_types.proofs.Callers.{calls}
+use Rattle.callers.proofs.scaler.pixel_span.Goals as goal
+
+pub returns-clause-to : goal.returns-clause-to
+returns-clause-to c = first_of (search rules, grind (arith, calls))
