@@ -113,8 +113,10 @@ pub fn right_side_bearing(advance: UfWord, left: FWord, x_min: i16, x_max: i16) 
 pub fn pixel_span(x_min: i16, x_max: i16, scale: Scale) -> (F26Dot6, F26Dot6)
     ensures left { IsIntegral 6 (f26dot6_bits result.0) }
     ensures right { IsIntegral 6 (f26dot6_bits result.1) }
-    ensures from { f26dot6_bits result.0 ≤ℤ rounded_product x_min (scale_bits scale) }
-    ensures to { rounded_product x_max (scale_bits scale) ≤ℤ f26dot6_bits result.1 }
+    ensures from { (f26dot6_bits result.0 ≤ℤ rounded_product x_min (scale_bits scale))
+        × (rounded_product x_min (scale_bits scale) <ℤ (f26dot6_bits result.0 +ℤ pos 64)) }
+    ensures to { (rounded_product x_max (scale_bits scale) ≤ℤ f26dot6_bits result.1)
+        × (f26dot6_bits result.1 <ℤ (rounded_product x_max (scale_bits scale) +ℤ pos 64)) }
 {
     (scale.apply(x_min).floor(), scale.apply(x_max).ceil())
 }
