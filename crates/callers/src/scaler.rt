@@ -251,6 +251,32 @@ pub fn hinted(y: F26Dot6, low: F26Dot6, high: F26Dot6) -> F26Dot6
     in_zone(y, low, high).round()
 }
 
+// Rounds half down, to the grid: a number below 0.
+fn half_down(y: F26Dot6) -> F26Dot6
+    requires { f26dot6_bits y <ℤ pos 0 }
+    ensures whole { IsIntegral 6 (f26dot6_bits result) }
+    ensures low { (f26dot6_bits y -ℤ pos 32) ≤ℤ f26dot6_bits result }
+    ensures high { f26dot6_bits result <ℤ (f26dot6_bits y +ℤ pos 32) }
+{
+    y.saturating_sub(F26Dot6::from_bits(32)).ceil()
+}
+
+/// Rounds half away from zero: a distance on the grid, or `None` on overflow.
+///
+/// The ruleset `ties` has `near` for each sign: half up, and half down.
+#[tactic(auto, using(font_types::proofs::Callers::ties))]
+pub fn whole_distance(distance: F26Dot6) -> Option<F26Dot6>
+    ensures variant { IsSome result ↔ FitsBits 32 (near (f26dot6_bits distance) 64 *ℤ pos 64) }
+    ensures value { IfSome result (λ whole.
+        f26dot6_bits whole ≡ (near (f26dot6_bits distance) 64 *ℤ pos 64)) }
+{
+    if distance < F26Dot6::ZERO {
+        Some(half_down(distance))
+    } else {
+        distance.checked_round()
+    }
+}
+
 /// Adds the numbers of two slices: advances, each with the kerning after it; wrapped once.
 ///
 /// The loop goes by index, and the sum is stated by `total_below`, a sum over an index.

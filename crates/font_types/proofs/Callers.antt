@@ -15,6 +15,7 @@ use Rattle.font_types.proofs.Narrowed.{exact_narrow_calls, exact_sum_is_integral
 use Rattle.font_types.proofs.{Searches.search_calls, StoredBytes.stored_calls, Magnitudes.magnitude_calls}
 use Rattle.font_types.proofs.StoredBytes.{first_24_calls}
 use Rattle.font_types.proofs.{ArrayNumbers.array_number_calls, Below.below_calls, Writes.write_calls}
+use Rattle.font_types.proofs.Ties.{tie_calls}
 use Rattle.font_types.proofs.Fields.{field_calls, record_calls, other_record_calls, header_calls}
 use Rattle.font_types.proofs.Fields.{rest_calls, beyond_calls}
 pub use Rattle.font_base.proofs.ScalarCalls.{absent, nowhere, rises_by}
@@ -107,6 +108,9 @@ pub ruleset shifts = (shr_low, shr_high, shr_fits, shr_up, average_fits_16, aver
 
 -- for the order of two results of `mul_div`; with `calls`, of two numbers that are scaled or rounded to integers
 pub ruleset orders = (order_calls, products_in_order)
+
+-- for `near`, where a function rounds half up and half down, in place of `calls`
+pub ruleset ties = (tie_calls)
 
 -- for several writes in one body
 pub ruleset writes = (write_calls)

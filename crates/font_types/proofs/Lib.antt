@@ -11,3 +11,4 @@ pub mod Below
 pub mod Writes
 pub mod Fields
 pub mod Callers
+pub mod Ties
