@@ -18,7 +18,7 @@ units_fit u s few fits =
     let nearest = near_is (u *ℤ s) 65536 (lit< tt) in
     omega (arith, ints, nearest.close, unsigned_abs-mul u s, most)
 
--- of 16-bit units, in 31 bits
+-- the magnitude of the product of 16-bit units is at most 2^30, and the product fits in 32 bits
 pub word_bounded : (u s : ℤ) → SFits w16 u → SFits w32 s → unsigned_abs (rounded_product u s) ≤ 2 ^ 30
 word_bounded u s few fits =
     let size : unsigned_abs s ≤ 2 ^ 31 = omega (arith, ints, fits) in
@@ -69,7 +69,7 @@ ordered : (u v s : ℤ) → pos 0 ≤ℤ s → u ≤ℤ v → (u *ℤ s) ≤ℤ 
 ordered u v (pos s) positive order = times_monotone u v s order
 ordered u v (negsuc s) positive order = grind (arith, ints)
 
--- a rule: of the results of two calls
+-- a rule: products by a factor that is not negative are in the order of the units
 pub products_in_order : (u v s : ℤ) → pos 0 ≤ℤ s → u ≤ℤ v → rounded_product u s ≤ℤ rounded_product v s
 products_in_order u v s positive order =
     near_monotone (lit< tt) (lit< tt) (near_is (u *ℤ s) 65536 (lit< tt)) (near_is (v *ℤ s) 65536 (lit< tt))
