@@ -307,7 +307,7 @@ class Package(unittest.TestCase):
     def test_files(self) -> None:
         """The package has the Rust, the source that it is made from, and the words of its
         contracts; its pages link to no file. The package of variations has the Rust and its pages.
-        Both have a license."""
+        Both have both licenses."""
 
         def files(*options: str) -> set[str]:
             packed = run("cargo", "package", "--list", "--allow-dirty", "--offline", *options)
@@ -324,7 +324,7 @@ class Package(unittest.TestCase):
         )
         self.assertEqual(packed, expected)
         expected = {path.removeprefix("variations/") for path in of("variations/src/")}
-        expected.update("Cargo.toml LICENSE-MIT README.md".split())
+        expected.update("Cargo.toml LICENSE-APACHE LICENSE-MIT README.md".split())
         self.assertEqual(files("--manifest-path", "variations/Cargo.toml"), expected)
         for page in packed:
             for link in text(page).split("](")[1:] if page.endswith(".md") else ():
