@@ -98,7 +98,7 @@ fn names(font: &Font<'_>, out: &mut impl Write) -> io::Result<()> {
 
 #[allow(dead_code)]
 fn main() -> Result<(), Box<dyn std::error::Error>> {
-    let usage = "cargo run --example dump -- FONT [TEXT]";
+    let usage = "usage: cargo run --example dump -- FONT [TEXT]";
     let mut words = std::env::args().skip(1);
     let bytes = std::fs::read(words.next().ok_or(usage)?)?;
     let font = Font::new(&bytes).ok_or("no font of one face")?;

@@ -56,7 +56,7 @@ pub fn run(program: &str, arguments: &[&str]) -> (String, String) {
 pub fn of_other_files(program: &str) {
     let path = file(b"no font at all");
     let usage = run(program, &[]).1;
-    assert!(usage.starts_with(&format!("Error: \"cargo run --example {program} -- FONT")));
+    assert!(usage.starts_with(&format!("Error: \"usage: cargo run --example {program} -- FONT")));
     let found = run(program, &[path.to_str().unwrap(), ""]).1;
     assert_eq!(found, "Error: \"no font of one face\"\n");
     let found = run(program, &[concat!(env!("CARGO_TARGET_TMPDIR"), "/absent"), ""]).1;

@@ -128,7 +128,7 @@ pub fn metrics(font: &Font<'_>, coordinates: &[F2Dot14]) -> Option<Vec<(Tag, F48
 
 #[allow(dead_code)]
 fn main() -> Result<(), Box<dyn std::error::Error>> {
-    let usage = "cargo run --example instance -- FONT TEXT 36 37 wght=600 wdth=87.5";
+    let usage = "usage: cargo run --example instance -- FONT TEXT 36 37 wght=600 wdth=87.5";
     let mut words = std::env::args().skip(1);
     let bytes = std::fs::read(words.next().ok_or(usage)?)?;
     // A setting in the place of TEXT would be taken for characters, at the default of each axis.
