@@ -545,7 +545,10 @@ FTY_API_INLINE const uint8_t *fty_api_next(fty_view *rest, size_t length) FTY_AP
 }
 /** @endcond */
 
-/** Takes the first `length` bytes. Absent, and the view stays, unless all of them are there. */
+/**
+ * Takes the first `length` bytes. Absent, and the view stays, unless all of them are there. 0 bytes
+ * are in each present view: a loop that takes items until one is absent has to refuse the size 0.
+ */
 FTY_API_INLINE fty_view fty_take(fty_view *rest, size_t length) FTY_API_NOEXCEPT {
     const fty_view all = *rest;
     if (length > all.length)
