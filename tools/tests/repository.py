@@ -302,6 +302,26 @@ class Pages(unittest.TestCase):
             for head in re.findall(r"(?m)^module _ [^\n]*", "\n".join(sources)):
                 self.assertIn(f"/// {head}\n", clauses)
 
+    def test_shown_contracts(self) -> None:
+        """Clauses and definitions of the documentation are those of the source, and the clauses of
+        a file stand in its order."""
+        specs = "".join(map(text, of("crates/", ".antt")))
+        parts = (
+            r"\n(?= *(?:requires|ensures|ghost|//))|(?<=where)\n(?= *(?:abbrev|record|unf))|\n\s*\n"
+        )
+        count = 0
+        for path in of(GENERATED, ".rs"):
+            from_file = re.findall(r"^// @generated from (\S+\.rt)", text(path))
+            source = squeezed((text(*from_file) if from_file else specs).replace("pub ", ""))
+            at = 0
+            for block in re.findall(r"/// ```text\n(.*?)/// ```", text(path), re.DOTALL):
+                for part in re.split(parts, re.sub("(?m)^ *///", "", block)):
+                    is_clause = part.lstrip().startswith(("requires", "ensures"))
+                    found = source.find(squeezed(part), at if is_clause else 0)
+                    self.assertGreaterEqual(found, 0, f"{path}: not in the source:\n{part}")
+                    at, count = found if is_clause else at, count + 1
+        self.assertGreater(count, 1000)
+
 
 class Package(unittest.TestCase):
     def test_files(self) -> None:
