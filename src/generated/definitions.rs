@@ -590,8 +590,8 @@ pub mod font_base {
         /// [`IsStored`]
         pub mod StoresOne {}
 
-        /// The comparisons of the n elements are sorted: `Less`, then `Equal`, then `Greater`. So it is if an array that is
-        /// sorted by a key has its keys compared with one.
+        /// The comparisons of the n elements are sorted: `Less`, then `Equal`, then `Greater`. They are, for example, if the
+        /// elements are sorted by a key, and each key is compared with one given key.
         ///
         /// ```text
         /// record Rises {V : Type 0} (is_scalar : V → Bool) (stored : V → List ℕ) (answer : V → Ordering)
@@ -1293,7 +1293,7 @@ pub mod font_fixed {
         /// ```
         pub mod differ_in_sign {}
 
-        /// r is the product of the raw values x and y: the exact product, rounded and wrapped
+        /// r is the product of the raw values x and y: x * y / 2^f, rounded half away from zero and wrapped
         ///
         /// ```text
         /// abbrev IsProduct : ℕ → ℕ → ℤ → ℤ → ℤ → Type 0
@@ -1302,8 +1302,8 @@ pub mod font_fixed {
         /// [`IsWrappedNear`]
         pub mod IsProduct {}
 
-        /// r is x * a / c, rounded and wrapped; if c is 0, the largest w-bit integer, negated if exactly one of x and a is
-        /// negative
+        /// r is x * a / c, rounded half away from zero and wrapped; if c is 0, the largest w-bit integer, negated if exactly one
+        /// of x and a is negative
         ///
         /// ```text
         /// abbrev IsMulDiv : ℕ → ℤ → ℤ → ℤ → ℤ → Type 0
@@ -1314,7 +1314,8 @@ pub mod font_fixed {
         /// [`signed`], [`differ_in_sign`], [`half_range`], [`IsWrappedNear`]
         pub mod IsMulDiv {}
 
-        /// r is the quotient of the raw values x and y: x * 2^f / y, rounded and wrapped
+        /// r is the quotient of the raw values x and y: x * 2^f / y, rounded half away from zero and wrapped; if y is 0, as in
+        /// `IsMulDiv`
         ///
         /// ```text
         /// abbrev IsQuotient : ℕ → ℕ → ℤ → ℤ → ℤ → Type 0
@@ -2517,7 +2518,8 @@ pub mod font_types {
         /// [`total`], [`term_product`]
         pub mod exact_sum {}
 
-        /// the raw value of a number that is scaled by a / c and rounded; if c is 0, the greatest, with the sign of the product
+        /// the raw value of a number that is scaled by a / c and rounded; if c is 0, the greatest, negated if exactly one of the
+        /// number and a is negative
         ///
         /// ```text
         /// abbrev scaled : ℤ → ℤ → Fixed → ℤ

@@ -32,8 +32,8 @@ pub record StoresOne {V : Type 0} (is_scalar : V → Bool) (stored : V → List 
   pub is_stored : IsStored is_scalar stored bytes value
   pub holds : P value
 
--- The comparisons of the n elements are sorted: `Less`, then `Equal`, then `Greater`. So it is if an array that is
--- sorted by a key has its keys compared with one.
+-- The comparisons of the n elements are sorted: `Less`, then `Equal`, then `Greater`. They are, for example, if the
+-- elements are sorted by a key, and each key is compared with one given key.
 pub record Rises {V : Type 0} (is_scalar : V → Bool) (stored : V → List ℕ) (answer : V → Ordering)
     (at : ℕ → List ℕ) (n : ℕ) : Type 0 where
   pub keeps : (i j : ℕ) (v w : V) → i ≤ j → j < n → IsStored is_scalar stored (at i) v

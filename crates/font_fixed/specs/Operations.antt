@@ -116,18 +116,19 @@ clamp w z = saturate_to_bits (w - 1) z
 abbrev pub differ_in_sign : ℤ → ℤ → Bool
 differ_in_sign x y = if is_negative x then not (is_negative y) else is_negative y
 
--- r is the product of the raw values x and y: the exact product, rounded and wrapped
+-- r is the product of the raw values x and y: x * y / 2^f, rounded half away from zero and wrapped
 abbrev pub IsProduct : ℕ → ℕ → ℤ → ℤ → ℤ → Type 0
 IsProduct w f x y r = IsWrappedNear w (x *ℤ y) (2 ^ f) r
 
--- r is x * a / c, rounded and wrapped; if c is 0, the largest w-bit integer, negated if exactly one of x and a is
--- negative
+-- r is x * a / c, rounded half away from zero and wrapped; if c is 0, the largest w-bit integer, negated if exactly one
+-- of x and a is negative
 abbrev pub IsMulDiv : ℕ → ℤ → ℤ → ℤ → ℤ → Type 0
 IsMulDiv w x a (pos zero) r = r ≡ signed (differ_in_sign x a) (half_range w - 1)
 IsMulDiv w x a (pos (suc c)) r = IsWrappedNear w (x *ℤ a) (suc c) r
 IsMulDiv w x a (negsuc c) r = IsWrappedNear w (neg_ℤ (x *ℤ a)) (suc c) r
 
--- r is the quotient of the raw values x and y: x * 2^f / y, rounded and wrapped
+-- r is the quotient of the raw values x and y: x * 2^f / y, rounded half away from zero and wrapped; if y is 0, as in
+-- `IsMulDiv`
 abbrev pub IsQuotient : ℕ → ℕ → ℤ → ℤ → ℤ → Type 0
 IsQuotient w f x y r = IsMulDiv w x (pos (2 ^ f)) y r
 

@@ -34,7 +34,8 @@ sum_in_range terms = if fits_bits 64 (exact_sum terms) then Some (exact_sum term
 abbrev pub varied : ℤ → List (Fixed × ℤ) → Option ℤ
 varied base terms = option_map (λ sum. base *ℤ pos 65536 +ℤ sum) (sum_in_range terms)
 
--- the raw value of a number that is scaled by a / c and rounded; if c is 0, the greatest, with the sign of the product
+-- the raw value of a number that is scaled by a / c and rounded; if c is 0, the greatest, negated if exactly one of the
+-- number and a is negative
 abbrev pub scaled : ℤ → ℤ → Fixed → ℤ
 scaled a (pos zero) x = signed (differ_in_sign (fixed_bits x) a) (half_range 32 - 1)
 scaled a (pos (suc c)) x = rounded_mul_div (fixed_bits x) a (pos (suc c))

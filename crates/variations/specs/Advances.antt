@@ -38,6 +38,7 @@ pub record IsHvar (hvar : List ℕ) : Type 0 where
 -- ---- the delta set of a glyph (OpenType, HVAR: itemVariationStoreOffset at 4, advanceWidthMappingOffset at 8; without
 -- a map, the outer index is zero and the inner index is the glyph)
 
+-- the table has the offset of a map, which is null, or of a map with an entry for the glyph
 pub record HasGlyphSet (hvar : List ℕ) (glyph : ℕ) : Type 0 where
   pub offset : 12 ≤ length hvar
   pub map : offset_at hvar 8 ≢ 0 → HasTarget hvar 8
@@ -62,7 +63,7 @@ abbrev pub data_place : ℕ → ℕ
 data_place outer = 8 + 4 * outer
 
 -- the store has its list of regions and all offsets of its header, that of the subtable points into it, and the inner
--- index has the 16 bits of one
+-- index fits in 16 bits
 pub record HasData (store : List ℕ) (outer inner : ℕ) : Type 0 where
   pub regions : HasRegionList store
   pub header : data_place (data_count store) ≤ length store

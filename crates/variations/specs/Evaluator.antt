@@ -76,6 +76,7 @@ pub record HasAxis (fvar : List ℕ) (axis : ℕ) : Type 0 where
 abbrev pub axis_bytes : List ℕ → ℕ → List ℕ
 axis_bytes fvar axis = drop (axis_offset fvar axis) fvar
 
+-- its tag, and its least, default and greatest values, raw values of 16.16
 abbrev pub axis_tag_bytes : List ℕ → ℕ → List ℕ
 axis_tag_bytes fvar axis = take 4 (axis_bytes fvar axis)
 
@@ -118,7 +119,7 @@ pub record IsNormalized (min default max value coordinate : ℤ) : Type 0 where
 
 -- ---- segment maps (OpenType, avar: linear between two mappings)
 
--- the distance of the coordinate from the start, that of the end, and the rise between their coordinates
+-- from the start to the coordinate, from the start to the end, and from the value at the start to that at the end
 abbrev pub lerp_part : Fixed → AxisValueMap → ℤ
 lerp_part coordinate start = fixed_bits coordinate -ℤ fixed_bits start.from_coordinate
 
@@ -302,7 +303,8 @@ pub record IsFirstWithout (fvar : List ℕ) (avar : Option (List ℕ)) (axis : �
   pub without : ¬ HasCoordinate fvar avar axis
   pub before : (k : ℕ) → k < axis → HasCoordinate fvar avar k
 
--- what the axis is without: its record, by the number of the axis, else its map or its range, by the tag
+-- the error of an axis without a coordinate: `NoRecord` with its number, if its record is not there; else with its tag
+-- `NoMap`, if its map is not there, and else `NoRange`
 abbrev pub IsAxisError : List ℕ → Option (List ℕ) → ℕ → CoordinatesError → Type 0
 IsAxisError fvar avar axis Places = ⊥
 IsAxisError fvar avar axis (NoRecord index) = (index ≡ axis) × (¬ HasAxis fvar axis)
@@ -312,7 +314,7 @@ IsAxisError fvar avar axis (NoRange tag) = HasAxis fvar axis × (tag_bytes tag �
     × HasMap avar axis × (¬ HasRange (min_of fvar axis) (default_of fvar axis) (max_of fvar axis))
 IsAxisError fvar avar axis (NoAxis tag) = ⊥
 
--- the error of so many places, else that of the first axis without a coordinate
+-- `Places`, if the places are more or fewer than the axes; else the error of the first axis without a coordinate
 abbrev pub IsAxesError : List ℕ → Option (List ℕ) → ℕ → CoordinatesError → Type 0
 IsAxesError fvar avar places error = ((places ≢ fvar_axis_count fvar) × (error ≡ Places))
     ⊎ ((places ≡ fvar_axis_count fvar)
@@ -328,7 +330,7 @@ pub record HasTag (fvar tag : List ℕ) : Type 0 where
 abbrev pub IsOfAxis : List ℕ → Setting → Type 0
 IsOfAxis fvar setting = HasTag fvar (tag_bytes setting.axis)
 
--- each setting is
+-- each setting is of one of the axes
 abbrev pub AreOfAxes : List ℕ → List Setting → Type 0
 AreOfAxes fvar settings = All (IsOfAxis fvar) settings
 
@@ -340,11 +342,12 @@ pub record IsFirstUnknown (fvar : List ℕ) (settings : List Setting) (tag : Tag
   pub there : HoldsAt (λ setting. setting.axis ≡ tag) settings place
   pub none : ¬ HasTag fvar (tag_bytes tag)
 
--- the error of that setting
+-- `NoAxis` with the tag of the first setting of no axis
 abbrev pub IsSettingError : List ℕ → List Setting → CoordinatesError → Type 0
 IsSettingError fvar settings error = (tag : Tag) × IsFirstUnknown fvar settings tag × (error ≡ NoAxis tag)
 
--- the error of the places or an axis, else that of the first setting of no axis
+-- the error of the places or of the first axis without a coordinate; if there is none, that of the first setting of no
+-- axis
 abbrev pub IsCoordinatesError : List ℕ → Option (List ℕ) → List Setting → ℕ → CoordinatesError → Type 0
 IsCoordinatesError fvar avar settings places error = IsAxesError fvar avar places error
     ⊎ ((places ≡ fvar_axis_count fvar) × HaveCoordinates fvar avar × IsSettingError fvar settings error)

@@ -478,8 +478,8 @@ pub mod font_fixed {
         /// ```
         pub mod differ_in_sign {}
 
-        /// r is x * a / c, rounded and wrapped; if c is 0, the largest w-bit integer, negated if exactly one of x and a is
-        /// negative
+        /// r is x * a / c, rounded half away from zero and wrapped; if c is 0, the largest w-bit integer, negated if exactly one
+        /// of x and a is negative
         ///
         /// ```text
         /// abbrev IsMulDiv : ℕ → ℤ → ℤ → ℤ → ℤ → Type 0
@@ -490,7 +490,8 @@ pub mod font_fixed {
         /// [`signed`], [`differ_in_sign`], [`half_range`], [`IsWrappedNear`]
         pub mod IsMulDiv {}
 
-        /// r is the quotient of the raw values x and y: x * 2^f / y, rounded and wrapped
+        /// r is the quotient of the raw values x and y: x * 2^f / y, rounded half away from zero and wrapped; if y is 0, as in
+        /// `IsMulDiv`
         ///
         /// ```text
         /// abbrev IsQuotient : ℕ → ℕ → ℤ → ℤ → ℤ → Type 0
@@ -750,8 +751,7 @@ pub mod variations {
         /// [`hvar_version`], [`HasTarget`], [`HasRegionList`], [`target_of`]
         pub mod IsHvar {}
 
-        /// the delta set of a glyph (OpenType, HVAR: itemVariationStoreOffset at 4, advanceWidthMappingOffset at 8; without
-        /// a map, the outer index is zero and the inner index is the glyph)
+        /// the table has the offset of a map, which is null, or of a map with an entry for the glyph
         ///
         /// ```text
         /// record HasGlyphSet (hvar : List ℕ) (glyph : ℕ) : Type 0 where
@@ -762,8 +762,7 @@ pub mod variations {
         /// [`offset_at`], [`HasTarget`], [`HasEntry`], [`target_of`]
         pub mod HasGlyphSet {}
 
-        /// the delta set of a glyph (OpenType, HVAR: itemVariationStoreOffset at 4, advanceWidthMappingOffset at 8; without
-        /// a map, the outer index is zero and the inner index is the glyph)
+        /// the table has the offset of a map, which is null, or of a map with an entry for the glyph
         ///
         /// ```text
         /// abbrev outer_index : List ℕ → ℕ → ℕ
@@ -773,8 +772,7 @@ pub mod variations {
         /// [`offset_at`], [`entry_of`], [`target_of`], [`inner_bits`]
         pub mod outer_index {}
 
-        /// the delta set of a glyph (OpenType, HVAR: itemVariationStoreOffset at 4, advanceWidthMappingOffset at 8; without
-        /// a map, the outer index is zero and the inner index is the glyph)
+        /// the table has the offset of a map, which is null, or of a map with an entry for the glyph
         ///
         /// ```text
         /// abbrev inner_index : List ℕ → ℕ → ℕ
@@ -803,7 +801,7 @@ pub mod variations {
         pub mod data_place {}
 
         /// the store has its list of regions and all offsets of its header, that of the subtable points into it, and the inner
-        /// index has the 16 bits of one
+        /// index fits in 16 bits
         ///
         /// ```text
         /// record HasData (store : List ℕ) (outer inner : ℕ) : Type 0 where
@@ -817,7 +815,7 @@ pub mod variations {
         pub mod HasData {}
 
         /// the store has its list of regions and all offsets of its header, that of the subtable points into it, and the inner
-        /// index has the 16 bits of one
+        /// index fits in 16 bits
         ///
         /// ```text
         /// abbrev regions_of : List ℕ → List ℕ
@@ -827,7 +825,7 @@ pub mod variations {
         pub mod regions_of {}
 
         /// the store has its list of regions and all offsets of its header, that of the subtable points into it, and the inner
-        /// index has the 16 bits of one
+        /// index fits in 16 bits
         ///
         /// ```text
         /// abbrev subtable_of : List ℕ → ℕ → List ℕ
@@ -971,7 +969,7 @@ pub mod variations {
         /// [`axis_offset`]
         pub mod axis_bytes {}
 
-        /// the bytes from its record on
+        /// its tag, and its least, default and greatest values, raw values of 16.16
         ///
         /// ```text
         /// abbrev axis_tag_bytes : List ℕ → ℕ → List ℕ
@@ -980,7 +978,7 @@ pub mod variations {
         /// [`axis_bytes`]
         pub mod axis_tag_bytes {}
 
-        /// the bytes from its record on
+        /// its tag, and its least, default and greatest values, raw values of 16.16
         ///
         /// ```text
         /// abbrev min_of : List ℕ → ℕ → ℤ
@@ -989,7 +987,7 @@ pub mod variations {
         /// [`signed_numeral`], [`axis_bytes`]
         pub mod min_of {}
 
-        /// the bytes from its record on
+        /// its tag, and its least, default and greatest values, raw values of 16.16
         ///
         /// ```text
         /// abbrev default_of : List ℕ → ℕ → ℤ
@@ -998,7 +996,7 @@ pub mod variations {
         /// [`signed_numeral`], [`axis_bytes`]
         pub mod default_of {}
 
-        /// the bytes from its record on
+        /// its tag, and its least, default and greatest values, raw values of 16.16
         ///
         /// ```text
         /// abbrev max_of : List ℕ → ℕ → ℤ
@@ -1050,7 +1048,7 @@ pub mod variations {
         /// [`IsQuotient`], [`fixed_bits`], [`ONE`], [`NEG_ONE`]
         pub mod IsNormalized {}
 
-        /// the distance of the coordinate from the start, that of the end, and the rise between their coordinates
+        /// from the start to the coordinate, from the start to the end, and from the value at the start to that at the end
         ///
         /// ```text
         /// abbrev lerp_part : Fixed → AxisValueMap → ℤ
@@ -1059,7 +1057,7 @@ pub mod variations {
         /// [`fixed_bits`]
         pub mod lerp_part {}
 
-        /// the distance of the coordinate from the start, that of the end, and the rise between their coordinates
+        /// from the start to the coordinate, from the start to the end, and from the value at the start to that at the end
         ///
         /// ```text
         /// abbrev lerp_whole : AxisValueMap → AxisValueMap → ℤ
@@ -1068,7 +1066,7 @@ pub mod variations {
         /// [`fixed_bits`]
         pub mod lerp_whole {}
 
-        /// the distance of the coordinate from the start, that of the end, and the rise between their coordinates
+        /// from the start to the coordinate, from the start to the end, and from the value at the start to that at the end
         ///
         /// ```text
         /// abbrev lerp_rise : AxisValueMap → AxisValueMap → ℤ
@@ -1400,7 +1398,8 @@ pub mod variations {
         /// [`fvar_axis_count`], [`HasCoordinate`]
         pub mod IsFirstWithout {}
 
-        /// what the axis is without: its record, by the number of the axis, else its map or its range, by the tag
+        /// the error of an axis without a coordinate: `NoRecord` with its number, if its record is not there; else with its tag
+        /// `NoMap`, if its map is not there, and else `NoRange`
         ///
         /// ```text
         /// abbrev IsAxisError : List ℕ → Option (List ℕ) → ℕ → CoordinatesError → Type 0
@@ -1415,7 +1414,7 @@ pub mod variations {
         /// [`HasAxis`], [`tag_bytes`], [`axis_tag_bytes`], [`HasMap`], [`HasRange`], [`min_of`], [`default_of`], [`max_of`]
         pub mod IsAxisError {}
 
-        /// the error of so many places, else that of the first axis without a coordinate
+        /// `Places`, if the places are more or fewer than the axes; else the error of the first axis without a coordinate
         ///
         /// ```text
         /// abbrev IsAxesError : List ℕ → Option (List ℕ) → ℕ → CoordinatesError → Type 0
@@ -1446,7 +1445,7 @@ pub mod variations {
         /// [`HasTag`], [`tag_bytes`]
         pub mod IsOfAxis {}
 
-        /// each setting is
+        /// each setting is of one of the axes
         ///
         /// ```text
         /// abbrev AreOfAxes : List ℕ → List Setting → Type 0
@@ -1468,7 +1467,7 @@ pub mod variations {
         /// [`IsOfAxis`], [`HasTag`], [`tag_bytes`]
         pub mod IsFirstUnknown {}
 
-        /// the error of that setting
+        /// `NoAxis` with the tag of the first setting of no axis
         ///
         /// ```text
         /// abbrev IsSettingError : List ℕ → List Setting → CoordinatesError → Type 0
@@ -1477,7 +1476,8 @@ pub mod variations {
         /// [`IsFirstUnknown`]
         pub mod IsSettingError {}
 
-        /// the error of the places or an axis, else that of the first setting of no axis
+        /// the error of the places or of the first axis without a coordinate; if there is none, that of the first setting of no
+        /// axis
         ///
         /// ```text
         /// abbrev IsCoordinatesError : List ℕ → Option (List ℕ) → List Setting → ℕ → CoordinatesError → Type 0
