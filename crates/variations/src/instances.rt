@@ -268,7 +268,7 @@ impl<'a> StoreInstance<'a> {
     #[must_use]
     pub fn delta(&self, set: DeltaSetIndex) -> Option<F48Dot16>
         ensures unvaried { IsNoVariation set.outer set.inner
-            → IfSome result (λ sum. f48dot16_bits sum ≡ pos 0) }
+            → IsSome result × IfSome result (λ sum. f48dot16_bits sum ≡ pos 0) }
         ensures variant { ¬ IsNoVariation set.outer set.inner → IsSome result
             ↔ (HasData self.now.store.bytes.now set.outer set.inner × HasSet (regions_of
             self.now.store.bytes.now) (subtable_of self.now.store.bytes.now set.outer) set.inner) }
