@@ -145,6 +145,41 @@ fn coordinates_mapped(rt: HostRuntime) {
     }
 }
 
+// Maps that OpenType does not allow: one with 0.5 to 0.25 and to 0.75, one without 0, and two maps
+// for one axis.
+const TWICE: [u8; 30] = [
+    0, 1, 0, 0, 0, 0, 0, 1, 0, 5, 0xC0, 0, 0xC0, 0, 0, 0, 0, 0, 0x20, 0, 0x10, 0, 0x20, 0, 0x30, 0,
+    0x40, 0, 0x40, 0,
+];
+
+const NO_ZERO: [u8; 22] = [
+    0, 1, 0, 0, 0, 0, 0, 1, 0, 3, 0xC0, 0, 0xC0, 0, 0x20, 0, 0x10, 0, 0x40, 0, 0x40, 0,
+];
+
+const TWO_MAPS: [u8; 28] = [
+    0, 1, 0, 0, 0, 0, 0, 2, 0, 4, 0xC0, 0, 0xC0, 0, 0, 0, 0, 0, 0x20, 0, 0x10, 0, 0x40, 0, 0x40, 0,
+    0, 0,
+];
+
+// HarfBuzz 6.0 has these coordinates, and FreeType 2.12.1 those that are not marked.
+#[test]
+fn coordinates_by_invalid_maps(rt: HostRuntime) {
+    for &(avar, bits, wanted) in &[
+        (&TWICE[..], 0x4000, 0x800),
+        // In FreeType it is 0x3000, by the second mapping.
+        (&TWICE, 0x8000, 0x1000),
+        (&TWICE, 0xC000, 0x3800),
+        (&NO_ZERO, -0x4000, -0x1800),
+        (&NO_ZERO, 0x4000, 0x2AB),
+        (&NO_ZERO, 0xC000, 0x2800),
+        // In FreeType it is 0x2000, without `avar`.
+        (&TWO_MAPS, 0x8000, 0x1000),
+    ] {
+        let coordinate = stored(bits, Some(avar));
+        assert!(rt; coordinate == Some(F2Dot14::from_bits(wanted)), "{bits}");
+    }
+}
+
 // Three axes from -1 by 0 to 1, of which the first two have one tag.
 const THREE: [u8; 76] = *b"\x00\x01\x00\x00\x00\x10\x00\x02\x00\x03\x00\x14\x00\x00\x00\x00\
     wght\xFF\xFF\x00\x00\x00\x00\x00\x00\x00\x01\x00\x00\x00\x00\x00\x00\
