@@ -2465,8 +2465,8 @@ pub mod font_geom {
         /// [`near`]
         pub mod factor_of {}
 
-        /// the raw value in 26.6 is at most 1/2 + |units| / 2^17 from units * size / units_per_em, multiplied by 2^17 *
-        /// units_per_em
+        /// the raw value in 26.6 is at most 1/2 + |units| / 2^17 from units * size / units_per_em, with both sides multiplied by
+        /// 2^17 * units_per_em
         ///
         /// ```text
         /// abbrev IsCloseScaled : ℤ → ℕ → ℤ → ℤ → Type 0

@@ -92,12 +92,12 @@ pub record IsBoundedPoint (n : ℕ) (p : Point ℤ) : Type 0 where
 abbrev pub form_bound : ℕ → ℕ → ℕ
 form_bound u v = 2 * (u * v / 65536 + 1)
 
--- the bounds imply `FitsComposed` for every point whose coordinates have magnitude at most n
+-- the bounds m and d of a, m' and d' of b, and n of p are small enough for `FitsComposed a b p`
 abbrev pub has_room_composed : ℕ → ℕ → ℕ → ℕ → ℕ → Bool
 has_room_composed m d m' d' n =
     nat_lt (form_bound m m') (2 ^ 31) && nat_lt (form_bound (form_bound m m') n + (form_bound m d' + d)) (2 ^ 31)
 
--- the bounds imply `FitsInTurn` for every point whose coordinates have magnitude at most n
+-- the same for `FitsInTurn a b p`
 abbrev pub has_room_in_turn : ℕ → ℕ → ℕ → ℕ → ℕ → Bool
 has_room_in_turn m d m' d' n =
     nat_lt (form_bound m' n + d') (2 ^ 31) && nat_lt (form_bound m (form_bound m' n + d') + d) (2 ^ 31)

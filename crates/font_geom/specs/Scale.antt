@@ -14,8 +14,8 @@ scale_bits scale = fixed_bits scale.0
 abbrev pub factor_of : ℤ → ℕ → ℤ
 factor_of size units_per_em = near (size *ℤ pos 65536) units_per_em
 
--- the raw value in 26.6 is at most 1/2 + |units| / 2^17 from units * size / units_per_em, multiplied by 2^17 *
--- units_per_em
+-- the raw value in 26.6 is at most 1/2 + |units| / 2^17 from units * size / units_per_em, with both sides multiplied by
+-- 2^17 * units_per_em
 abbrev pub IsCloseScaled : ℤ → ℕ → ℤ → ℤ → Type 0
 IsCloseScaled size units_per_em units pixels =
     2 ^ 17 * unsigned_abs (pixels *ℤ pos units_per_em -ℤ units *ℤ size) ≤ units_per_em * (65536 + unsigned_abs units)

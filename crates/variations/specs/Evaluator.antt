@@ -1,4 +1,4 @@
--- Values of an evaluator of variations.
+-- Coordinates of an instance: settings, and the tables `fvar` and `avar`.
 use Rattle.std.specs.Prelude.{◌≡◌, ◌≢◌, ◌⊎◌, ℕ, ◌-◌, ◌<◌, ℤ, pos, neg_ℤ, ◌+ℤ◌, ◌-ℤ◌, ◌≤ℤ◌, ◌<ℤ◌, ◌==◌, List, length}
 use Rattle.std.specs.Prelude.{take, drop, Result, Ok, Err, zero, suc, ◌+◌, ◌*◌, ◌/◌, ◌≤◌, ◌*ℤ◌, slice_index_or, []}
 use Rattle.std.specs.Prelude.{Option, Some, None, IfSome, All}
