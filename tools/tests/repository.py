@@ -94,6 +94,20 @@ def clauses(code: str) -> str:
     return " ".join(found)
 
 
+def documented_clauses(code: str) -> int:
+    """How many clauses of functions with documentation are not marked as for proofs."""
+    count, is_documented, above, line_above = 0, False, "", ""
+    for line in map(str.strip, code.splitlines()):
+        if re.match(r"(?:pub(?:\(\w+\))? |const |unsafe )*fn ", line):
+            is_documented = above.startswith("///")
+        if line.startswith(("requires", "ensures")) and line_above != "// For proofs.":
+            count += is_documented
+        line_above = line
+        if not line.startswith(("#[", "// ")):
+            above = line
+    return count
+
+
 def squeezed(text: str) -> str:
     return "".join(text.split())
 
@@ -304,7 +318,7 @@ class Pages(unittest.TestCase):
 
     def test_shown_contracts(self) -> None:
         """Clauses and definitions of the documentation are those of the source, and the clauses of
-        a file stand in its order."""
+        a file stand in its order, and are all of documented functions but those for proofs."""
         specs = "".join(map(text, of("crates/", ".antt")))
         parts = (
             r"\n(?= *(?:requires|ensures|ghost|//))|(?<=where)\n(?= *(?:abbrev|record|unf))|\n\s*\n"
@@ -320,6 +334,8 @@ class Pages(unittest.TestCase):
                     found = source.find(squeezed(part), at if is_clause else 0)
                     self.assertGreaterEqual(found, 0, f"{path}: not in the source:\n{part}")
                     at, count = found if is_clause else at, count + 1
+            shown = len(re.findall(r"(?m)^ */// (?:requires|ensures)\b", text(path)))
+            self.assertEqual(shown, sum(map(documented_clauses, map(text, from_file))), path)
         self.assertGreater(count, 1000)
 
 
