@@ -1,5 +1,14 @@
 //! What `specs` defines, of values of OpenType: a definition as wrong as its function proves.
 
+ghost use Rattle.std.specs.Prelude.{◌≡◌, ◌∷◌, []};
+ghost use Rattle.font_types.specs.F2Dot14;
+ghost use Rattle.font_types.specs.F4Dot12;
+ghost use Rattle.font_types.specs.F6Dot10;
+ghost use Rattle.font_types.specs.Fixed;
+ghost use Rattle.font_types.specs.F26Dot6;
+ghost use Rattle.font_types.specs.F2Dot30;
+ghost use Rattle.font_types.specs.F48Dot16;
+
 use crate::dumper::{Axis, row};
 use crate::linter::{BadTag, validate};
 use crate::reader::{
@@ -8,7 +17,10 @@ use crate::reader::{
 };
 use crate::start::advance_at;
 use font_types::JsonFault::{InvalidTag, MissingMember, Syntax};
-use font_types::{FWord, Fixed, GlyphId16, NameId, Scalar, ScalarArray, TableDataRef, Tag, Uint24};
+use font_types::{
+    F2Dot14, F2Dot30, F4Dot12, F6Dot10, F26Dot6, F48Dot16, FWord, Fixed, GlyphId16, NameId, Scalar,
+    ScalarArray, TableDataRef, Tag, Uint24,
+};
 use serde_json::Value;
 use std::test::Fail;
 
@@ -93,4 +105,42 @@ fn numbers_after_their_count(rt: HostRuntime) {
     let numbers = counted_numbers(&[0, 2, 0, 0, 0, 1, 0, 0, 1, 0]);
     assert!(rt; numbers.and_then(|numbers| numbers.get(1)) == Some(256));
     assert!(rt; counted_numbers(&[0, 2, 0, 0, 0, 1]).is_none());
+}
+
+// The constants of each format that clauses name are those of the code.
+fn units_of_16_bits() -> ([F2Dot14; 3], [F4Dot12; 3], [F6Dot10; 3])
+    ensures f2dot14 { result.0 ≡ (F2Dot14.ZERO ∷ F2Dot14.ONE ∷ F2Dot14.NEG_ONE ∷ []) }
+    ensures f4dot12 { result.1 ≡ (F4Dot12.ZERO ∷ F4Dot12.ONE ∷ F4Dot12.NEG_ONE ∷ []) }
+    ensures f6dot10 { result.2 ≡ (F6Dot10.ZERO ∷ F6Dot10.ONE ∷ F6Dot10.NEG_ONE ∷ []) }
+{
+    (
+        [F2Dot14::ZERO, F2Dot14::ONE, F2Dot14::NEG_ONE],
+        [F4Dot12::ZERO, F4Dot12::ONE, F4Dot12::NEG_ONE],
+        [F6Dot10::ZERO, F6Dot10::ONE, F6Dot10::NEG_ONE],
+    )
+}
+
+fn units_of_32_bits() -> ([Fixed; 3], [F26Dot6; 3], [F2Dot30; 3])
+    ensures fixed { result.0 ≡ (Fixed.ZERO ∷ Fixed.ONE ∷ Fixed.NEG_ONE ∷ []) }
+    ensures f26dot6 { result.1 ≡ (F26Dot6.ZERO ∷ F26Dot6.ONE ∷ F26Dot6.NEG_ONE ∷ []) }
+    ensures f2dot30 { result.2 ≡ (F2Dot30.ZERO ∷ F2Dot30.ONE ∷ F2Dot30.NEG_ONE ∷ []) }
+{
+    (
+        [Fixed::ZERO, Fixed::ONE, Fixed::NEG_ONE],
+        [F26Dot6::ZERO, F26Dot6::ONE, F26Dot6::NEG_ONE],
+        [F2Dot30::ZERO, F2Dot30::ONE, F2Dot30::NEG_ONE],
+    )
+}
+
+fn units_of_64_bits() -> [F48Dot16; 3]
+    ensures { result ≡ (F48Dot16.ZERO ∷ F48Dot16.ONE ∷ F48Dot16.NEG_ONE ∷ []) }
+{
+    [F48Dot16::ZERO, F48Dot16::ONE, F48Dot16::NEG_ONE]
+}
+
+#[test]
+fn units_that_clauses_name(rt: HostRuntime) {
+    assert!(rt; units_of_16_bits().2[1] == F6Dot10::from_bits(0x400));
+    assert!(rt; units_of_32_bits().1[1] == F26Dot6::from_bits(64));
+    assert!(rt; units_of_64_bits()[1] == F48Dot16::from_bits(0x1_0000));
 }
