@@ -11,6 +11,7 @@ use crate::maps::{DeltaSetIndex, read_delta_set_index};
 use font_types::{GlyphId16, Offset32, OffsetValue, Scalar};
 
 // Returns the bytes from where an offset points, or `None` if it is null or points past the end.
+#[inline]
 pub(crate) fn at_offset(table: &[u8], place: usize) -> Option<&[u8]>
     ensures variant { IsSome result ↔ HasTarget table.now place }
     ensures value { IfSome result (λ target. target.now ≡ target_of table.now place) }

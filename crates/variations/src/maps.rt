@@ -137,6 +137,7 @@ fn bit_count(format: u8) -> u32
 }
 
 // Reads an unsigned integer of one to four bytes.
+#[inline]
 fn read_entry(map: &[u8], offset: usize, width: usize) -> Option<u32>
     requires { (0 < width) × (width ≤ 4) }
     ensures variant { IsSome result ↔ (offset + width ≤ length map.now) }

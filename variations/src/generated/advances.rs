@@ -14,6 +14,7 @@ use super::maps::{DeltaSetIndex, read_delta_set_index};
 use font_types_proved::{GlyphId16, Offset32, OffsetValue, Scalar};
 
 // Returns the bytes from where an offset points, or `None` if it is null or points past the end.
+#[inline]
 pub(crate) fn at_offset(table: &[u8], place: usize) -> Option<&[u8]> {
     Offset32::read_at(table, place)?.follow(table)
 }

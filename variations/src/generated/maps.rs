@@ -153,6 +153,7 @@ fn bit_count(format: u8) -> u32 {
 }
 
 // Reads an unsigned integer of one to four bytes.
+#[inline]
 fn read_entry(map: &[u8], offset: usize, width: usize) -> Option<u32> {
     match width {
         1 => Some(u32::from(u8::read_at(map, offset)?)),
