@@ -143,8 +143,8 @@ class Body(Function):
         if kind == "Ints":
             values = tuple(number(n, it["width"]) for n in it["values"])
             found = bytes(it["values"]) if it["width"] == 8 else ("agg", None, values)
-        elif kind == "Parts" and not it:
-            found = ("agg", None, ())
+        elif kind == "Parts" and all("Int" in part for part in it):
+            found = ("agg", None, tuple(self.operand(part)[1] for part in it))
         elif kind == "Repeat":
             found = ("repeat", self.operand(it[0])[1], self.amount(it[1]))
         else:
