@@ -1,12 +1,14 @@
 -- The scalar of a region has one value, which the functions give.
-use Rattle.std.proofs.Common.{◌≡◌, ◌≢◌, refl, ℕ, zero, suc, ◌<◌, ◌⊎◌, Bool, true, false, ℤ, pos, negsuc, ◌-ℤ◌, ◌*ℤ◌}
+use Rattle.std.proofs.Common.{◌≡◌, ◌≢◌, ◌∙◌, refl, sym, ap, lit<, ℕ, zero, suc, ◌*◌, ◌<◌, ◌≤◌, ◌⊎◌, Bool, true, false, ℤ, pos, negsuc, ◌-ℤ◌, ◌*ℤ◌}
 use Rattle.std.proofs.Common.{◌≤ℤ◌, ◌<ℤ◌, int_lt, int_le, arith, Decides, List, length, get_or, ⊎_elim, inl, inr}
 use Rattle.std.proofs.Common.{if◌then◌else◌, ◌||◌}
 use Rattle.std.proofs.lemmas.Int.{ints, by_lt_z}
+use Rattle.std.proofs.Math.Nat.{le-suc_iff}
 use Rattle.std.proofs.lemmas.Bool.Decides.{Decides-or, Decides-int_eq, not_from_Decides}
 use Rattle.std.specs.Ordering.{int_eq}
-use Rattle.font_types.specs.{Operations.IsMulDiv, Near.near, F2Dot14.F2Dot14, Fixed.Fixed, Fixed.fixed_bits}
-use Rattle.font_types.proofs.Callers.{near_is}
+use Rattle.font_types.specs.{Operations.IsMulDiv, Near.near, Near.near_magnitude, Wrap.wrap, Wrap.FitsBits}
+use Rattle.font_types.specs.{F2Dot14.F2Dot14, Fixed.Fixed, Fixed.fixed_bits}
+use Rattle.font_types.proofs.Callers.{near_is, wrap-fits, Laws.mul_div_exact}
 use Rattle.variations.specs.Variations.{IsIgnored, IsOffRegion, IsScalarAfter, is_ignored_axis, share, scalar_after}
 use Rattle.variations.specs.Variations.{IsScalarOf, scalar_of, AreScalars, IsRegionScalar, region_bytes, axis_count}
 use Rattle.variations.specs.Variations.{HasRegion}
@@ -27,6 +29,35 @@ share_gives x a (pos (suc c)) some = record {
   is = refl;
 }
 share_gives x a (negsuc c) some = absurd (omega (arith, ints, some))
+
+near_product : (s p d : ℕ) → near (pos s *ℤ pos p) d ≡ pos (near_magnitude (s * p) d)
+unfolding near
+near_product s p d = refl
+
+-- the share by magnitudes
+pub share_of : (x : ℤ) (s p d q : ℕ) → x ≡ pos s → 0 < d → q ≡ near_magnitude (s * p) d → q ≤ 65536
+    → IsMulDiv 32 x (pos p) (pos d) (pos q)
+share_of x s p zero q from some is small = absurd (omega (arith, some))
+share_of x s p (suc d) q from some is small =
+    let value : pos q ≡ near (pos s *ℤ pos p) (suc d) = ap pos is ∙ sym (near_product s p (suc d)) in
+    let fits : FitsBits 32 (pos q) = record { low = omega (arith, ints); high = omega (arith, ints, small) } in
+    let kept : wrap 32 (pos q) ≡ pos q = wrap-fits 32 (pos q) (lit< tt) fits in
+    rw from (record {
+      rounded = near (pos s *ℤ pos p) (suc d);
+      nearest = near_is (pos s *ℤ pos p) (suc d) some;
+      wrapped = sym kept ∙ ap (wrap 32) value;
+      is = sym kept ∙ ap (wrap 32) value;
+    })
+
+zero_fits : FitsBits 32 (pos 0)
+zero_fits = record { low = omega (arith, ints); high = omega (arith, ints) }
+
+share_of_zero : (a c : ℤ) → pos 0 <ℤ c → IsMulDiv 32 (pos 0) a c (pos 0)
+share_of_zero a c some =
+    let given = share_gives (pos 0) a c some in
+    let is : share (pos 0) a c ≡ pos 0 = mul_div_exact 32 (pos 0) (pos 0) a c _ (lit< tt) zero_fits
+    (omega (arith, ints)) given (λ none. omega (arith, ints, some, none)) in
+    rw is at given
 
 -- ---- one axis
 
@@ -160,6 +191,26 @@ unfolding IsScalarOf scalar_of
 scalar_is region coordinates zero scalar is = is
 scalar_is region coordinates (suc n) scalar (before, so_far, next) =
     rw (← scalar_is region coordinates n before so_far) (scalar_after_is _ _ _ _ before scalar next)
+
+-- once it is 0, it stays 0
+zero_after : (start peak end coordinate : ℤ) → IsScalarAfter start peak end coordinate (pos 0) (pos 0)
+zero_after start peak end coordinate = record {
+  ignored = λ i. refl;
+  at_peak = λ e. refl;
+  outside = λ kept other away. refl;
+  rising = λ kept after before. share_of_zero (coordinate -ℤ start) (peak -ℤ start)
+      (omega (arith, ints, after, before));
+  falling = λ kept after before. share_of_zero (end -ℤ coordinate) (end -ℤ peak)
+      (omega (arith, ints, after, before));
+}
+
+pub zero_stays : (region : List ℕ) (coordinates : List F2Dot14) (n m : ℕ) → n ≤ m
+    → IsScalarOf region coordinates n (pos 0) → IsScalarOf region coordinates m (pos 0)
+unfolding IsScalarOf
+zero_stays region coordinates n zero low is = let none : n ≡ zero = omega (arith, low) in rw none at is
+zero_stays region coordinates n (suc m) low is = ⊎_elim
+    (λ before. (pos 0, zero_stays region coordinates n m before is, zero_after _ _ _ _))
+    (λ same. rw same at is) (le-suc_iff.0 low)
 
 scalar_gives : (region : List ℕ) (coordinates : List F2Dot14) (n : ℕ)
     → IsScalarOf region coordinates n (scalar_of region coordinates n)

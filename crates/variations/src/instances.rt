@@ -99,9 +99,9 @@ impl<'a> ItemVariationStore<'a> {
     /// Varies an advance by a set at these coordinates, as [`StoreInstance::vary`] does, but without
     /// a buffer. Axes beyond the coordinates are at their default, and with `&[]` all are.
     ///
-    /// It walks all axes of the region of each column of the set, so the time is that of all axes
-    /// times all columns, whatever the number of coordinates. For more than one advance, and for an
-    /// untrusted font, use [`at`](ItemVariationStore::at).
+    /// It walks the axes of the region of each column of the set, up to one that makes the scalar 0.
+    /// So the time can be that of all axes times all columns, whatever the number of coordinates.
+    /// For more than one advance, and for an untrusted font, use [`at`](ItemVariationStore::at).
     #[must_use]
     pub fn vary_advance(
         &self,
@@ -167,9 +167,9 @@ impl<'a> ItemVariationStore<'a> {
 /// assert_eq!(instance.vary(UfWord::new(500), set), Some(UfWord::new(520)));
 /// ```
 ///
-/// [`at`](ItemVariationStore::at) walks each axis of each region once. Its time is linear in the
-/// bytes of the store and the number of its regions, which is at most 32,767. After that a delta of
-/// a set takes one product.
+/// [`at`](ItemVariationStore::at) walks each axis of each region at most once. Its time is linear in
+/// the bytes of the store and the number of its regions, which is at most 32,767. After that a delta
+/// of a set takes one product.
 ///
 /// So the advances of all glyphs take at most as many products as the number of glyphs times the
 /// greatest number of columns. The columns of a set are fewer than a third of the bytes of the

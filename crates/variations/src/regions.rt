@@ -1,8 +1,8 @@
 //! Variation regions: the scalar of each axis, and of a region.
 
-ghost use Rattle.std.specs.Prelude.{◌≡◌, ◌≢◌, ◌↔◌, ◌≤◌, ◌+◌, ◌*◌, pos, ◌≤ℤ◌, ◌<ℤ◌, ◌-ℤ◌, ◌*ℤ◌};
+ghost use Rattle.std.specs.Prelude.{◌≡◌, ◌≢◌, ◌↔◌, ◌<◌, ◌≤◌, ◌+◌, ◌*◌, ◌^◌, pos, ◌≤ℤ◌, ◌<ℤ◌, ◌-ℤ◌, ◌*ℤ◌};
 ghost use Rattle.std.specs.Prelude.{IsTrue, IsSome, IfSome, IfNone, length, take, drop};
-ghost use Rattle.font_types.specs.Operations.{IsMulDiv};
+ghost use Rattle.font_types.specs.{Operations.IsMulDiv, Near.near_magnitude};
 ghost use Rattle.font_types.specs.Fixed;
 ghost use Rattle.font_types.specs.{Fixed.fixed_bits, F2Dot14.f2dot14_bits};
 ghost use Rattle.variations.specs.Variations.{IsIgnored, IsOffRegion, IsScalarAfter, IsAxisScalar};
@@ -103,33 +103,48 @@ fn scaled_off_peak(scalar: Fixed, axis: RegionAxisCoordinates, coordinate: F2Dot
 {
     let (start, peak, end) = (axis.start_coord, axis.peak_coord, axis.end_coord);
     if coordinate <= start || end <= coordinate {
-        Fixed::ZERO
-    } else if coordinate < peak {
-        share(scalar, distance(start, coordinate), distance(start, peak))
-    } else {
-        share(scalar, distance(coordinate, end), distance(peak, end))
+        return Fixed::ZERO;
     }
+    let (part, whole) = if coordinate < peak {
+        (distance(start, coordinate), distance(start, peak))
+    } else {
+        (distance(coordinate, end), distance(peak, end))
+    };
+    share(scalar, part, whole)
 }
 
-// Returns the exact difference `to - from` of raw values of 2.14, for a ratio of two.
-fn distance(from: F2Dot14, to: F2Dot14) -> Fixed
-    ensures { fixed_bits result ≡ (f2dot14_bits to -ℤ f2dot14_bits from) }
+// Returns the exact difference `to - from` of raw values of 2.14.
+fn distance(from: F2Dot14, to: F2Dot14) -> u32
+    requires { f2dot14_bits from ≤ℤ f2dot14_bits to }
+    ensures value { pos result ≡ (f2dot14_bits to -ℤ f2dot14_bits from) }
+    ensures small { result < 2 ^ 16 }
 {
-    Fixed::from_bits(i32::from(to.to_bits()) - i32::from(from.to_bits()))
+    (i32::from(to.to_bits()) - i32::from(from.to_bits())) as u32
 }
 
 // Returns a scalar times a part of its whole, rounded once.
-fn share(scalar: Fixed, part: Fixed, whole: Fixed) -> Fixed
+#[tactic(auto, using(font_types::proofs::Callers::calls, crate::proofs::Scalars::share_of))]
+fn share(scalar: Fixed, part: u32, whole: u32) -> Fixed
     requires scalar { (pos 0 ≤ℤ fixed_bits scalar)
         × (fixed_bits scalar ≤ℤ fixed_bits Fixed.ONE) }
-    requires part { (pos 0 ≤ℤ fixed_bits part) × (fixed_bits part ≤ℤ fixed_bits whole) }
-    requires whole { whole ≢ Fixed.ZERO }
-    ensures value { IsMulDiv 32 (fixed_bits scalar) (fixed_bits part) (fixed_bits whole)
-        (fixed_bits result) }
+    requires part { part ≤ whole }
+    requires whole { (0 < whole) × (whole < 2 ^ 16) }
+    ensures value { IsMulDiv 32 (fixed_bits scalar) (pos part) (pos whole) (fixed_bits result) }
     ensures low { pos 0 ≤ℤ fixed_bits result }
     ensures high { fixed_bits result ≤ℤ fixed_bits Fixed.ONE }
 {
-    scalar.mul_div(part, whole)
+    Fixed::from_bits(rounded_share(scalar.to_bits() as u32, part, whole) as i32)
+}
+
+// Returns `scalar * part / whole`, rounded half up. The product fits in 32 bits.
+fn rounded_share(scalar: u32, part: u32, whole: u32) -> u32
+    requires scalar { scalar ≤ 65536 }
+    requires part { part ≤ whole }
+    requires whole { (0 < whole) × (whole < 2 ^ 16) }
+    ensures value { result ≡ near_magnitude (scalar * part) whole }
+    ensures high { result ≤ scalar }
+{
+    (scalar * part + whole / 2) / whole
 }
 
 // Returns the coordinate along an axis, by default 0.
@@ -157,7 +172,16 @@ fn axis_of(region: &[u8], axis: u16) -> RegionAxisCoordinates
     }
 }
 
-// Returns `scaled` of a region's axis at the coordinate along it.
+// Reads the peak of a region along an axis.
+fn peak_of(region: &[u8], axis: u16) -> F2Dot14
+    requires { 6 * axis + 6 ≤ length region.now }
+    ensures { f2dot14_bits result ≡ stored_bits region.now (6 * axis + 2) }
+{
+    F2Dot14::read_at(region, 6 * usize::from(axis) + 2).unwrap()
+}
+
+// Returns `scaled` of a region's axis at the coordinate along it. It reads the peak first, which is
+// zero along most axes.
 fn scaled_along(scalar: Fixed, region: &[u8], coordinates: &[F2Dot14], axis: u16) -> Fixed
     requires scalar { (pos 0 ≤ℤ fixed_bits scalar)
         × (fixed_bits scalar ≤ℤ fixed_bits Fixed.ONE) }
@@ -167,11 +191,12 @@ fn scaled_along(scalar: Fixed, region: &[u8], coordinates: &[F2Dot14], axis: u16
     ensures low { pos 0 ≤ℤ fixed_bits result }
     ensures high { fixed_bits result ≤ℤ fixed_bits Fixed.ONE }
 {
-    scaled(
-        scalar,
-        axis_of(region, axis),
-        coordinate_along(coordinates, axis),
-    )
+    let coordinate = coordinate_along(coordinates, axis);
+    let peak = peak_of(region, axis);
+    if peak == F2Dot14::ZERO || coordinate == peak {
+        return scalar;
+    }
+    scaled(scalar, axis_of(region, axis), coordinate)
 }
 
 // Returns the product of the scalars along all axes, rounded after each.
@@ -186,6 +211,10 @@ fn product_of_scalars(region: &[u8], axes: u16, coordinates: &[F2Dot14]) -> Fixe
     let mut scalar = Fixed::ONE;
     for axis in 0..axes {
         scalar = scaled_along(scalar, region, coordinates, axis);
+        // It stays zero.
+        if scalar == Fixed::ZERO {
+            return scalar;
+        }
     }
     scalar
 }
@@ -196,7 +225,7 @@ fn find_region(regions: &[u8], region: u16) -> Option<&[u8]>
     ensures value { IfSome result (λ bytes. bytes.now ≡ region_bytes regions.now region) }
     ensures len { IfSome result (λ bytes. length bytes.now ≡ 6 * axis_count regions.now) }
 {
-    let (axes, count) = (u16::read_at(regions, 0)?, u16::read_at(regions, 2)?);
+    let (count, axes) = (u16::read_at(regions, 2)?, u16::read_at(regions, 0)?);
     if count >= 0x8000 || region >= count {
         return None;
     }

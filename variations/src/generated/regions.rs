@@ -77,22 +77,29 @@ fn scaled(scalar: Fixed, axis: RegionAxisCoordinates, coordinate: F2Dot14) -> Fi
 fn scaled_off_peak(scalar: Fixed, axis: RegionAxisCoordinates, coordinate: F2Dot14) -> Fixed {
     let (start, peak, end) = (axis.start_coord, axis.peak_coord, axis.end_coord);
     if coordinate <= start || end <= coordinate {
-        Fixed::ZERO
-    } else if coordinate < peak {
-        share(scalar, distance(start, coordinate), distance(start, peak))
-    } else {
-        share(scalar, distance(coordinate, end), distance(peak, end))
+        return Fixed::ZERO;
     }
+    let (part, whole) = if coordinate < peak {
+        (distance(start, coordinate), distance(start, peak))
+    } else {
+        (distance(coordinate, end), distance(peak, end))
+    };
+    share(scalar, part, whole)
 }
 
-// Returns the exact difference `to - from` of raw values of 2.14, for a ratio of two.
-fn distance(from: F2Dot14, to: F2Dot14) -> Fixed {
-    Fixed::from_bits(i32::from(to.to_bits()) - i32::from(from.to_bits()))
+// Returns the exact difference `to - from` of raw values of 2.14.
+fn distance(from: F2Dot14, to: F2Dot14) -> u32 {
+    (i32::from(to.to_bits()) - i32::from(from.to_bits())) as u32
 }
 
 // Returns a scalar times a part of its whole, rounded once.
-fn share(scalar: Fixed, part: Fixed, whole: Fixed) -> Fixed {
-    scalar.mul_div(part, whole)
+fn share(scalar: Fixed, part: u32, whole: u32) -> Fixed {
+    Fixed::from_bits(rounded_share(scalar.to_bits() as u32, part, whole) as i32)
+}
+
+// Returns `scalar * part / whole`, rounded half up. The product fits in 32 bits.
+fn rounded_share(scalar: u32, part: u32, whole: u32) -> u32 {
+    (scalar * part + whole / 2) / whole
 }
 
 // Returns the coordinate along an axis, by default 0.
@@ -113,9 +120,20 @@ fn axis_of(region: &[u8], axis: u16) -> RegionAxisCoordinates {
     }
 }
 
-// Returns `scaled` of a region's axis at the coordinate along it.
+// Reads the peak of a region along an axis.
+fn peak_of(region: &[u8], axis: u16) -> F2Dot14 {
+    F2Dot14::read_at(region, 6 * usize::from(axis) + 2).unwrap()
+}
+
+// Returns `scaled` of a region's axis at the coordinate along it. It reads the peak first, which is
+// zero along most axes.
 fn scaled_along(scalar: Fixed, region: &[u8], coordinates: &[F2Dot14], axis: u16) -> Fixed {
-    scaled(scalar, axis_of(region, axis), coordinate_along(coordinates, axis))
+    let coordinate = coordinate_along(coordinates, axis);
+    let peak = peak_of(region, axis);
+    if peak == F2Dot14::ZERO || coordinate == peak {
+        return scalar;
+    }
+    scaled(scalar, axis_of(region, axis), coordinate)
 }
 
 // Returns the product of the scalars along all axes, rounded after each.
@@ -123,13 +141,17 @@ fn product_of_scalars(region: &[u8], axes: u16, coordinates: &[F2Dot14]) -> Fixe
     let mut scalar = Fixed::ONE;
     for axis in 0..axes {
         scalar = scaled_along(scalar, region, coordinates, axis);
+        // It stays zero.
+        if scalar == Fixed::ZERO {
+            return scalar;
+        }
     }
     scalar
 }
 
 // Returns the bytes of a region.
 fn find_region(regions: &[u8], region: u16) -> Option<&[u8]> {
-    let (axes, count) = (u16::read_at(regions, 0)?, u16::read_at(regions, 2)?);
+    let (count, axes) = (u16::read_at(regions, 2)?, u16::read_at(regions, 0)?);
     if count >= 0x8000 || region >= count {
         return None;
     }
