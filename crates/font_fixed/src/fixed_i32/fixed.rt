@@ -322,7 +322,7 @@ const fn low_half(n: i32) -> i16
     ensures { result ≡ wrap 16 n }
 {
     // In Rattle, `as` may lose no bit.
-    ((n << 16) >> 16) as i16
+    ((n.cast_unsigned() & 0xFFFF) as u16).cast_signed()
 }
 
 /// Rounds half away from zero, and wraps on overflow.

@@ -463,7 +463,7 @@ const fn nearest_integer(delta: F48Dot16) -> i64 {
 #[inline(always)]
 const fn low_half(n: i32) -> i16 {
     // In Rattle, `as` may lose no bit.
-    ((n << 16) >> 16) as i16
+    ((n.cast_unsigned() & 0xFFFF) as u16).cast_signed()
 }
 
 /// Rounds half away from zero, and wraps on overflow.
