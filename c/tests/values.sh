@@ -1,6 +1,6 @@
 # The values of each call, with sanitizers, over the archive and over the shared library; what is
-# loaded; FreeType's values; and each export from Python. A table with one value that is wrong has to
-# fail, and so have a row that is, a header that stores when it fails, and a read out of bounds.
+# loaded; and FreeType's values. A table with one value that is wrong has to fail, and so have a row
+# that is, a header that stores when it fails, and a read out of bounds.
 
 mkdir "$work/storing"
 sed '/fty_read_/,/^}/s/return FTY_OUT_OF_BOUNDS;/return *value = 0, FTY_OUT_OF_BOUNDS;/' \
@@ -46,20 +46,6 @@ if command -v valgrind >/dev/null; then
     fails only_stores "$work/stores" load
 else
     echo "left out: the trace by valgrind, which needs valgrind"
-fi
-
-# If Python and a font are installed, each export as a language calls it that does not read C.
-font=$(find -L /usr/share/fonts -name 'DejaVu*.ttf' 2>/dev/null | sort | sed -n 1p || true)
-if command -v python3 >/dev/null && [[ -n $font ]]; then
-    from_python=(python3 tests/exports.py "$root/lib/libfont_types.so" "$font")
-    called=$("${from_python[@]}")
-    is "$(sed '$d' <<<"$called")" "$(nm -D --defined-only "$root/lib/libfont_types.so" |
-        grep -o '\bfty_[a-z0-9_]*' | sort -u)" 'called from Python' exported
-    tail -n 1 <<<"$called"
-    fails "${from_python[@]}" wrong
-    has "$(<"$work/log")" ' 1 wrong'
-else
-    echo "left out: calls from Python, which need python3 and fonts-dejavu-core"
 fi
 
 # If FreeType is installed, its functions against those that README.md names for them.
