@@ -1,5 +1,5 @@
 # Prints each declaration that breaks a rule of names, which the head of font_types.h states. Reads
-# lines of declarations.txt.
+# each on a line, such as `uint16_t fty_u16(fty_view view,size_t offset)`.
 
 function broken(rule) {
     print rule ": " $0
@@ -33,8 +33,6 @@ BEGIN {
     for (i = 1; i <= count; i++)
         expects(names[i], type_of(names[i]), names[i] !~ /8/)
 }
-
-/^(#|typedef|FTY_)/ { next }
 
 {
     result = $0

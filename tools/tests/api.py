@@ -141,9 +141,16 @@ def of_rust(shown: str) -> Counter[str]:
 
 
 def of_c(shown: str) -> Counter[str]:
-    """Returns what stays of the library for C: declarations, and symbol versions with exports."""
-    items = (it.rstrip() for it in re.split(r"\n+(?=[^ }])", shown))
-    return Counter(it for it in items if not it.startswith("# "))
+    """Returns what stays of the library for C: what the header declares, and symbol versions with
+    exports."""
+    header, exports = shown.split("\n\0\n")
+    code = re.sub(r"/\*.*?\*/|\\\n", " ", header, flags=re.DOTALL)
+    found = re.findall(r"((?:const )?\w+ \*?fty_(?!api_)\w+\([^()]*\))\s+\w+\s*[;{]", code)
+    found += re.findall(r"\btypedef struct \w+ \{[^{}]*\}", code)
+    found += re.findall(r"\btypedef enum \w+ \w+|\bFTY_\w+ = \d+", code)
+    found += re.findall(r"^#define (FTY_(?!API_|VERSION).*)", code, re.MULTILINE)
+    found += re.split(r"\n+(?=[^ }])", exports)
+    return Counter(" ".join(it.split()) for it in found if not it.startswith("# "))
 
 
 def of_program(shown: str) -> Counter[str]:
@@ -158,7 +165,7 @@ def of_program(shown: str) -> Counter[str]:
 LASTING = [
     (".", of_rust, ["tests/api.txt"]),
     (".", of_program, ["crates/fontval/stdin", "crates/fontval/stdout"]),
-    ("c", of_c, ["c/tests/declarations.txt", "c/font_types.map"]),
+    ("c", of_c, ["c/include/font_types.h", "c/font_types.map"]),
 ]
 
 
@@ -224,6 +231,17 @@ class Api(unittest.TestCase):
             self.assertEqual(listed.count(old), 1, old)
             (told,) = gone(of_rust, listed, listed.replace(old, new))
             self.assertTrue(told.startswith(f"all of {name}: "), told)
+        in_c = joined((ROOT / path).read_bytes() for path in LASTING[2][2])
+        for old, new in (
+            ("fty_status fty_skip(", "fty_status fty_skipped("),
+            ("fty_skip(fty_view *rest, size_t", "fty_skip(fty_view *rest, uint32_t"),
+            ("FTY_OUT_OF_RANGE = 2,", "FTY_OUT_OF_RANGE = 13,"),
+            ("FTY_FRACTION(30)", "FTY_FRACTION(29)"),
+            ("    size_t room;", "    uint32_t room;"),
+            ("        fty_tag_parse;\n", ""),
+        ):
+            self.assertEqual(in_c.count(old), 1, old)
+            self.assertEqual(len(gone(of_c, in_c, in_c.replace(old, new))), 1, old)
         asked = joined((ROOT / path).read_bytes() for path in LASTING[1][2])
         answer = "int24 fe1dc0: -123456"
         self.assertEqual(gone(of_program, asked, asked.replace("-123456", "-12345")), [answer])
