@@ -203,6 +203,9 @@ static void check_decimals(void) {
     check_result("formatted, 5 bits", 0, formatted(0, 5, 0), FTY_BAD_FRACTION, 0);
     check_result("parsed, with the NUL", 0, parsed_32("1.5", 4, 16), FTY_NOT_DECIMAL, 0);
     char digits[300];
+    /* There is room for the longest, and for its NUL. */
+    check_written("room", 0, formatted(-INT64_MAX, 16, FTY_DECIMAL_ROOM), "-140737488355327.99998");
+    check("room", 1, given > strlen("-140737488355327.99998"), 1);
     memset(digits, '0', sizeof digits);
     digits[0] = '-', digits[sizeof digits - 1] = '1';
     check_result("parsed, long", 0, parsed_32(digits, sizeof digits, 16), FTY_OK, -65536);
@@ -398,7 +401,8 @@ static void check_tags(void) {
     check("after a space", 0, fty_tag_validate(0x41202042, &index), FTY_TAG_AFTER_SPACE);
     check("after a space", 1, (int64_t)index, 3);
     check_short("text", 0, tag_text(0x00FF1F99, 23));
-    check_written("text", 0, tag_text(0x00FF1F99, BUFFER), "{0x00}{0xFF}{0x1F}{0x99}");
+    check_written("text", 0, tag_text(0x00FF1F99, FTY_TAG_ROOM), "{0x00}{0xFF}{0x1F}{0x99}");
+    check("text", 1, given > strlen("{0x00}{0xFF}{0x1F}{0x99}"), 1);
     check_written("text", 1, tag_text(0x0A20417E, BUFFER), "{0x0A} A~");
 }
 
