@@ -14,7 +14,7 @@ FETCHED := $(if $(FONT_TYPES_DIR),--offline --config 'patch.crates-io.font-types
 # A file for what a step prints. /dev/stderr may be of another user, whom su or sudo left.
 log = log=$$(mktemp); trap 'rm "$$log"' EXIT
 
-STEPS := rust pages lints workspaces fontations tools smt smt-checked mir c compare compared
+STEPS := rust pages lints workspaces tools smt smt-checked mir c compare compared
 .PHONY: check $(STEPS)
 
 check:
@@ -61,13 +61,6 @@ workspaces:
 	$(call with,cargo cc git)
 	$(cloned)
 	tests/workspaces
-
-# A copy of the package under the name of font-types, with what readers of fonts need, compiles.
-fontations:
-	$(call with,cargo cc python3)
-	compare/fontations/copy "$$CARGO_TARGET_DIR/copy"
-	RUSTFLAGS=-Awarnings cargo build --quiet --offline --manifest-path "$$CARGO_TARGET_DIR/copy/Cargo.toml" \
-		--config 'patch.crates-io.bytemuck.path="compare/fontations/bytemuck"'
 
 tools:
 	$(call with,cargo cc git python3 rustfmt)
