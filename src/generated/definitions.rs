@@ -845,8 +845,8 @@ pub mod font_fixed {
         pub mod f26dot6_bits {}
     }
 
-    /// 2.14 fixed-point numbers (OpenType, data types: F2DOT14, "16-bit signed fixed number with the low 14 bits of fraction
-    /// (2.14)").
+    /// 2.14 fixed-point numbers (OpenType, data types: F2DOT14, "16-bit signed fixed number with the
+    /// low 14 bits of fraction (2.14)").
     ///
     /// In the order of `crates/font_fixed/specs/F2Dot14.antt`: [`f2dot14_bits`](mod@F2Dot14_antt::f2dot14_bits).
     pub mod F2Dot14_antt {

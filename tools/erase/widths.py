@@ -1,4 +1,5 @@
-"""Fixed-point numbers of 16 and of 64 bits, from the files of those of 32.
+"""Fixed-point numbers of 16 and of 64 bits, from the files of those of 32, and the definitions of
+each format, from those of `Fixed`.
 
 Each is a whole file of 32 bits with another width: what the numbers of a width have, its
 definitions, and the proofs of its functions.
@@ -19,6 +20,12 @@ WHOLE = [
     "crates/font_fixed/proofs/rounding/round_bits_32",
 ]
 
+# The definitions of `Fixed`; those of the other formats; and the source of these, whose names have
+# the bits before and after the point.
+OF_FIXED = "crates/font_fixed/specs/Fixed.antt"
+OF_FORMATS = "crates/font_fixed/specs/F[0-9]*.antt"
+FORMATS = "crates/font_fixed/src/fixed_i*/f[0-9]*dot[0-9]*.rt"
+
 # What a file that is made begins with, after the sign of a comment.
 MADE = " @generated from "
 
@@ -33,6 +40,14 @@ def tree(root: Path) -> tuple[dict[str, str], set[str]]:
             head = f"{sign}{MADE}{path} by tools/erase\n"
             files[of_width(path, width, name)] = head + of_width(text, width, name)
         old.update(path for folder in WHOLE for path in whole(root, of_width(folder, width, name)))
+    for file in root.glob(FORMATS):
+        about = re.findall("^//!(.*)", file.read_text(), re.MULTILINE)
+        lines = [f"{MADE}{OF_FIXED} by tools/erase", *about]
+        _, text = (root / OF_FIXED).read_text().split("\n", 1)
+        name = file.stem.replace("f", "F").replace("d", "D")
+        head = "".join(f"--{it}\n" for it in lines)
+        files[OF_FIXED.replace("Fixed", name)] = head + of_format(text, name)
+    old.update(str(file.relative_to(root)) for file in root.glob(OF_FORMATS))
     return files, old
 
 
@@ -41,6 +56,15 @@ def whole(root: Path, path: str) -> list[str]:
     if "." in path:
         return [path]
     return sorted(str(file.relative_to(root)) for file in (root / path).rglob("*.antt"))
+
+
+def of_format(text: str, name: str) -> str:
+    """Returns definitions of `Fixed` as those of another format."""
+    whole, fraction = map(int, re.findall(r"\d+", name))
+    text = re.sub(r"\b16\b", str(fraction), text)
+    text = re.sub(r"(?<=FixedI|ixed_i)32", str(whole + fraction), text)
+    text = re.sub(r"\bfixed_(?=bits|of|text)", f"{name.lower()}_", text)
+    return re.sub(r"\bFixed\b", name, text.replace("a `Fixed`", f"an `{name}`"))
 
 
 def of_width(text: str, width: int, name: str) -> str:

@@ -1,3 +1,4 @@
+-- @generated from crates/font_fixed/specs/Fixed.antt by tools/erase
 -- 26.6 fixed-point numbers: the unit of scaled outlines, and not stored in any table.
 use Rattle.std.specs.Prelude.{ℕ, ℤ, List, pos, neg_ℤ, ◌^◌}
 use Rattle.font_decimal.specs.Shortest.{shortest_text}

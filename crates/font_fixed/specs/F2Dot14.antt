@@ -1,5 +1,6 @@
--- 2.14 fixed-point numbers (OpenType, data types: F2DOT14, "16-bit signed fixed number with the low 14 bits of fraction
--- (2.14)").
+-- @generated from crates/font_fixed/specs/Fixed.antt by tools/erase
+-- 2.14 fixed-point numbers (OpenType, data types: F2DOT14, "16-bit signed fixed number with the
+-- low 14 bits of fraction (2.14)").
 use Rattle.std.specs.Prelude.{ℕ, ℤ, List, pos, neg_ℤ, ◌^◌}
 use Rattle.font_decimal.specs.Shortest.{shortest_text}
 use Rattle.font_fixed.specs.declared.fixed_i16.FixedI16.{FixedI16}

@@ -1,3 +1,4 @@
+-- @generated from crates/font_fixed/specs/Fixed.antt by tools/erase
 -- 2.30 fixed-point numbers. No table of OpenType stores them.
 use Rattle.std.specs.Prelude.{ℕ, ℤ, List, pos, neg_ℤ, ◌^◌}
 use Rattle.font_decimal.specs.Shortest.{shortest_text}

@@ -1,3 +1,4 @@
+-- @generated from crates/font_fixed/specs/Fixed.antt by tools/erase
 -- 48.16 fixed-point numbers: wide enough for sums of deltas, and not stored in any table.
 use Rattle.std.specs.Prelude.{ℕ, ℤ, List, pos, neg_ℤ, ◌^◌}
 use Rattle.font_decimal.specs.Shortest.{shortest_text}

@@ -1,3 +1,4 @@
+-- @generated from crates/font_fixed/specs/Fixed.antt by tools/erase
 -- 4.12 fixed-point numbers, as variable composites store angles.
 use Rattle.std.specs.Prelude.{ℕ, ℤ, List, pos, neg_ℤ, ◌^◌}
 use Rattle.font_decimal.specs.Shortest.{shortest_text}

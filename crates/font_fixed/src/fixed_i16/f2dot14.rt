@@ -1,4 +1,5 @@
-//! 2.14 fixed-point numbers.
+//! 2.14 fixed-point numbers (OpenType, data types: F2DOT14, "16-bit signed fixed number with the
+//! low 14 bits of fraction (2.14)").
 #![tactic(auto, using(crate::proofs::Rules::number_code))]
 
 ghost use Rattle.std.proofs.Common.{lit≤};

@@ -1,4 +1,4 @@
-//! 4.12 fixed-point numbers.
+//! 4.12 fixed-point numbers, as variable composites store angles.
 
 ghost use Rattle.std.proofs.Common.{lit≤};
 

@@ -1,4 +1,4 @@
-//! 6.10 fixed-point numbers.
+//! 6.10 fixed-point numbers, as variable composites store scales.
 
 ghost use Rattle.std.proofs.Common.{lit≤};
 

@@ -1,4 +1,4 @@
-//! 26.6 fixed-point numbers.
+//! 26.6 fixed-point numbers: the unit of scaled outlines, and not stored in any table.
 #![tactic(auto, using(crate::proofs::Rules::number_code))]
 
 ghost use Rattle.std.proofs.Common.{lit≤};

@@ -1,4 +1,4 @@
-//! 2.30 fixed-point numbers.
+//! 2.30 fixed-point numbers. No table of OpenType stores them.
 #![tactic(auto, using(crate::proofs::Rules::number_code))]
 
 ghost use Rattle.std.specs.Prelude.{◌≡◌, ◌^◌, ◌↔◌, ℤ, pos, ◌*ℤ◌, IsSome, IfSome, refl};

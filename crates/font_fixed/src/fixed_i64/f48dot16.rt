@@ -1,4 +1,4 @@
-//! 48.16 fixed-point numbers.
+//! 48.16 fixed-point numbers: wide enough for sums of deltas, and not stored in any table.
 #![tactic(auto, using(crate::proofs::Rules::number_code))]
 
 ghost use Rattle.std.proofs.Common.{lit≤};

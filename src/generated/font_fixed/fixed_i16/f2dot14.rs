@@ -1,6 +1,7 @@
 // @generated from crates/font_fixed/src/fixed_i16/f2dot14.rt by tools/erase
 
-//! 2.14 fixed-point numbers.
+//! 2.14 fixed-point numbers (OpenType, data types: F2DOT14, "16-bit signed fixed number with the
+//! low 14 bits of fraction (2.14)").
 
 #[cfg(doc)]
 use crate::definitions::font_base::Wrap_antt::FitsBits;

@@ -1,6 +1,6 @@
 // @generated from crates/font_fixed/src/fixed_i16/f4dot12.rt by tools/erase
 
-//! 4.12 fixed-point numbers.
+//! 4.12 fixed-point numbers, as variable composites store angles.
 
 use super::FixedI16;
 use crate::font_fixed::formats::Format;

@@ -1,6 +1,6 @@
 // @generated from crates/font_fixed/src/fixed_i16/f6dot10.rt by tools/erase
 
-//! 6.10 fixed-point numbers.
+//! 6.10 fixed-point numbers, as variable composites store scales.
 
 use super::FixedI16;
 use crate::font_fixed::formats::Format;

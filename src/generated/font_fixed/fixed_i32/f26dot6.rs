@@ -1,6 +1,6 @@
 // @generated from crates/font_fixed/src/fixed_i32/f26dot6.rt by tools/erase
 
-//! 26.6 fixed-point numbers.
+//! 26.6 fixed-point numbers: the unit of scaled outlines, and not stored in any table.
 
 #[cfg(doc)]
 use crate::definitions::font_base::Wrap_antt::{FitsBits, wrap};

@@ -1,6 +1,6 @@
 // @generated from crates/font_fixed/src/fixed_i32/f2dot30.rt by tools/erase
 
-//! 2.30 fixed-point numbers.
+//! 2.30 fixed-point numbers. No table of OpenType stores them.
 
 #[cfg(doc)]
 use crate::definitions::font_base::{

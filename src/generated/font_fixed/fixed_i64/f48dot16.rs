@@ -1,6 +1,6 @@
 // @generated from crates/font_fixed/src/fixed_i64/f48dot16.rt by tools/erase
 
-//! 48.16 fixed-point numbers.
+//! 48.16 fixed-point numbers: wide enough for sums of deltas, and not stored in any table.
 
 #[cfg(doc)]
 use crate::definitions::font_base::Wrap_antt::{FitsBits, wrap};
