@@ -1,7 +1,7 @@
 """What users can name in both packages is that of `tests/api.txt`, with what their types store, so
 that a change of it is one of that file. After an intended change: `python3 tools/tests/api.py`.
 From 1.0 on, nothing is gone that a release with the same first number has: no name, no declaration of
-C, and no answer of `fontval`.
+C, and no answer of `fontval`. CHANGELOG names what has another contract.
 """
 
 import re
@@ -175,15 +175,53 @@ def gone(lasting: Callable[[str], Counter[str]], old: str, new: str) -> list[str
     return list((lasting(old) - (lasting(new) | lasting(new.replace("const fn", "fn")))).keys())
 
 
+# Lines of documentation, the attributes after them, and the line of the item.
+DOCUMENTED = re.compile(r"((?:^ *///.*\n)+)((?:^ *#\[.*\n)*)^( *)(.*)", re.M)
+CLAUSE = re.compile(r"^(?=(?:ensures|requires|ghost|decreases)\b)", re.M)
+
+
+def of_contracts(shown: str) -> Counter[tuple[str, str]]:
+    """Returns the clauses of a package, each with the line of its item, but not with its own name;
+    and its definitions."""
+    names = set(re.findall(r"\w+", " ".join(re.findall(r"pub use [^;]*", shown))))
+    found: Counter[tuple[str, str]] = Counter()
+    for doc, attributes, indent, head in DOCUMENTED.findall(shown):
+        free = None if indent else re.match(r"pub .*?\bfn (\w+)", head)
+        if not (free and free[1] not in names) and "doc(hidden)" not in attributes:
+            for block in re.sub("^ */// ?", "", doc, flags=re.M).split("```text\n")[1:]:
+                code = re.sub(r"^ *//.*\n", "", block.split("```")[0], flags=re.M)
+                clauses = (" ".join(it.split()) for it in CLAUSE.split(code))
+                unnamed = (re.sub(r"^(ensures|requires) \w+ \{", r"\1 {", it) for it in clauses)
+                found.update((head, it) for it in unnamed if it)
+    return found
+
+
+def changed(old: str, new: str) -> list[str]:
+    """Returns the names of what may promise less, or ask for more: a clause or a definition is gone,
+    or what a caller or an implementation has to show is new."""
+    before, after = of_contracts(old), of_contracts(new)
+    asks = re.compile(r"(?:unsafe )?(?:pub trait|fn)\b")
+    heads = {head for head, _ in before}
+    more = (it for it in after - before if it[1].startswith("requires") or asks.match(it[0]))
+    lines = {head for head, _ in before - after} | {head for head, _ in more if head in heads}
+    form = r".*?\b(?:fn|struct|enum|trait|type|mod) (\w+)|impl\b.*?(\w+)(?:<.*>)? \{"
+    found = (re.match(form, line) for line in lines)
+    return sorted({it[1] or it[2] for it in found if it})
+
+
 def joined(files: Iterable[bytes]) -> str:
     return "\n\0\n".join(it.decode("latin-1") for it in files)
 
 
-def of_release(commit: str, path: str) -> bytes:
-    found = subprocess.run(["git", "show", f"{commit}:{path}"], cwd=ROOT, capture_output=True)
+def git(commit: str, *command: str) -> bytes:
+    found = subprocess.run(["git", *command], cwd=ROOT, capture_output=True)
     needs = "a shallow clone lacks this commit of a release: git fetch --unshallow"
     assert found.returncode == 0, f"{commit}: {needs}"
     return found.stdout
+
+
+def of_release(commit: str, path: str) -> bytes:
+    return git(commit, "show", f"{commit}:{path}")
 
 
 class Api(unittest.TestCase):
@@ -201,6 +239,19 @@ class Api(unittest.TestCase):
                     old = joined(of_release(commit, path) for path in paths)
                     new = joined((ROOT / path).read_bytes() for path in paths)
                     self.assertEqual(gone(lasting, old, new), [], f"of {commit}")
+
+    def test_changelog_names_changed_contracts(self) -> None:
+        page = (ROOT / "CHANGELOG.md").read_text()
+        first = version.current(".").split(".")[0]
+        form = rf"^\| ({first}\.\S+) \| `(\w+)` \|"
+        for release, commit in re.findall(form, page, re.M) if first != "0" else ():
+            files = git(commit, "ls-tree", "-r", "--name-only", commit, "src/generated").split()
+            old = "\n".join(of_release(commit, it.decode()).decode() for it in files)
+            new = "\n".join(it.read_text() for it in sorted((ROOT / "src/generated").rglob("*.rs")))
+            self.assertGreater(len(of_contracts(old)), 500)
+            since = page.split(f"\n## {release} ")[0].split("\n## ", 1)[1]
+            told = set(re.findall(r"\w+", " ".join(since.split("`")[1::2])))
+            self.assertEqual([it for it in changed(old, new) if it not in told], [], release)
 
     def test_what_is_gone(self) -> None:
         """Of planted changes."""
@@ -245,6 +296,28 @@ class Api(unittest.TestCase):
         asked = joined((ROOT / path).read_bytes() for path in LASTING[1][2])
         answer = "int24 fe1dc0: -123456"
         self.assertEqual(gone(of_program, asked, asked.replace("-123456", "-12345")), [answer])
+
+    def test_changed_contracts(self) -> None:
+        """Of planted changes: a weaker clause or definition, and what has to be shown more, but not a
+        new name of a clause, nor a clause more that is promised."""
+        files = sorted((ROOT / "src/generated").rglob("*.rs"))
+        shown = "\n".join(it.read_text() for it in files)
+        factor = "/// ensures { scale_bits result ≡ fixed_bits factor }\n"
+        law = "/// ghost is_scalar: { Self → Bool };\n"
+        read = "/// ensures variant { IsSome result ↔ (length slice.now ≡ LEN) }\n"
+        for old, new, names in (
+            (factor, "", ["from_factor"]),
+            (factor, factor.replace("ensures {", "ensures factor {"), []),
+            (factor, f"{factor}    /// ensures more {{ result ≡ result }}\n", []),
+            (factor, f"{factor}    /// requires more {{ result ≡ result }}\n", ["from_factor"]),
+            (law, f"{law}/// ghost more: {{ (a : Self) → a ≡ a }};\n", ["Scalar"]),
+            (read, f"{read}    /// ensures more {{ result ≡ result }}\n", ["from_slice"]),
+            ("/// record Decimal (text", "/// record Decimal (words", ["Decimal"]),
+        ):
+            self.assertEqual(shown.count(old), 1, old)
+            self.assertEqual(changed(shown, shown.replace(old, new)), names, new)
+        added = "    /// ```text\n    /// requires { x ≡ x }\n    /// ```\n    pub fn of(x: u8) {\n"
+        self.assertEqual(changed(shown, shown + added), [])
 
     def test_arguments_of_variations(self) -> None:
         """Those of one function differ in their types."""
