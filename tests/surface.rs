@@ -1,9 +1,11 @@
-//! Each type has these traits, no fewer and no more. `api.txt` has names and signatures.
+//! Each type has these traits, no fewer and no more, and those of threads. `api.txt` has names and
+//! signatures.
 
 use core::error::Error;
 use core::fmt::{Debug, Display};
 use core::hash::Hash;
 use core::ops;
+use core::panic::{RefUnwindSafe, UnwindSafe};
 use core::str::FromStr;
 use font_types_proved::*;
 
@@ -24,8 +26,15 @@ macro_rules! traits_of {
     }};
 }
 
+/// Compiles if a type can be sent, shared and moved, also past a panic.
+fn in_any_thread<T: Send + Sync + Unpin + UnwindSafe + RefUnwindSafe>() {}
+
+/// Asks the same of a type without a name.
+fn is_in_any_thread<T: Send + Sync + Unpin + UnwindSafe + RefUnwindSafe>(_: T) {}
+
 macro_rules! assert_traits {
     ($([$($of:ty),*] $traits:literal;)*) => {$($(
+        in_any_thread::<$of>();
         let found = traits_of!($of: "Copy" Copy, "Debug" Debug, "Default" Default,
             "Display" Display, "Eq" Eq, "Ord" Ord, "Hash" Hash, "FromStr" FromStr, "Error" Error,
             "FixedSize" FixedSize, "Scalar" Scalar, "IdentityEq" IdentityEq,
@@ -64,7 +73,9 @@ fn traits() {
         [Scale] "Copy Debug Eq Hash";
         [TableDataRef<'static, SampleHeader>, SampleHeader] "Copy Debug";
         [Shortest] "Copy Debug Display Eq Hash";
-        [Pad, Align] "Copy Debug Eq Hash";
+        [ScalarArray<'static, Tag>] "Copy Debug Default Eq";
+        [ScalarArrayIter<'static, Tag>] "Debug";
+        [Pad, Align, ByteRecords] "Copy Debug Eq Hash";
         [Predefined] "Debug";
         [DecimalFault, InvalidTag, TryFromGlyphIdError, TryFromUint24Error]
             "Copy Debug Display Eq Error";
@@ -75,4 +86,20 @@ fn traits() {
             "Copy Debug Default Display Eq Ord Hash FromStr FixedSize Scalar IdentityEq \
              Add Neg Mul Div";
     }
+    // It has `+=`, but no `+`.
+    in_any_thread::<DeltaSum>();
+    is_in_any_thread(ScalarArray::<Tag>::default().iter());
+}
+
+/// Compiles if a longer life is taken for a shorter one.
+#[test]
+fn lives_get_shorter() {
+    type Views<'a> =
+        (ScalarArray<'a, Tag>, ScalarArrayIter<'a, Tag>, TableDataRef<'a, SampleHeader>);
+    fn shorter<'a>(views: Views<'static>, _: &'a [u8]) -> Views<'a> {
+        views
+    }
+    let (array, table) = (ScalarArray::default(), TableDataRef::new(&[0; 6]).unwrap());
+    let bytes = Vec::new();
+    assert!(shorter((array, array.into_iter(), table), &bytes).0.is_empty());
 }
