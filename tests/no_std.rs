@@ -59,9 +59,13 @@ const CVT: Tag = Tag::new(b"cvt ");
 // The test harness links `std`, so the attributes are read from the sources.
 #[test]
 fn library_is_no_std() {
-    let roots = [include_str!("../src/lib.rs"), include_str!("../c/src/lib.rs")];
-    for root in roots {
-        assert!(root.lines().any(|line| line == "#![no_std]"));
+    for (root, refuses) in [
+        (include_str!("../src/lib.rs"), "#![deny(unsafe_code)]"),
+        (include_str!("../variations/src/lib.rs"), "#![forbid(unsafe_code)]"),
+        (include_str!("../c/src/lib.rs"), "#![no_std]"),
+    ] {
+        let has = |attribute| root.lines().any(|line| line == attribute);
+        assert!(has("#![no_std]") && has(refuses), "{root}");
         assert!(!root.contains("extern crate"));
     }
 }

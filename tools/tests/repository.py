@@ -408,8 +408,8 @@ class Package(unittest.TestCase):
 class Tests(unittest.TestCase):
     def test_none_is_passed_over(self) -> None:
         """A file of tests has no comment in brackets, no early return, and no condition but those
-        known; what a debug build passes over, `make rust` runs in a release build; and a module or
-        a call names what is no test."""
+        known; what a debug build passes over, `make rust` runs in a release build; a module or a
+        call names what is no test; and no package leaves its tests out."""
         folders = ("tests/", "compare/tests/", "variations/tests/")
         rust = of(folders, ".rs") + of("crates/", ".rt")
         files = {path: text(path) for path in rust if path.endswith(".rs") or "/src/tests" in path}
@@ -424,6 +424,11 @@ class Tests(unittest.TestCase):
         for path in of("tools/tests/", ".py"):
             names = re.findall(r"^    def (?!test_|setUp\b|__)(\w+)\(self", text(path), re.M)
             wrong += [f"{path}: {name}" for name in names if text(path).count(name) < 2]
+        # `c/check` tests the library for C.
+        known = ["c/Cargo.toml: test = false", "compare/Cargo.toml: harness = false"]
+        for path in of("", "Cargo.toml"):
+            keys = re.findall(r"^ *((?:auto\w+|test|doctest|harness) *=.*)", text(path), re.M)
+            wrong += [it for key in keys if (it := f"{path}: {key}") not in known]
         self.assertEqual(wrong, [])
 
 
