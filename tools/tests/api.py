@@ -225,6 +225,20 @@ def of_release(commit: str, path: str) -> bytes:
 
 
 class Api(unittest.TestCase):
+    def test_rows_of_releases(self) -> None:
+        """With another commit, what is compared would be no release. A release is a commit whose
+        verdicts are of its own files, and its tree is beside it."""
+        page = (ROOT / "CHANGELOG.md").read_text()
+        form = r"^\| (\d\S+) \| `(\w+)` \| `(\w+)` \|$"
+        for release, commit, tree in re.findall(form, page, re.M):
+            found = git(commit, "rev-parse", f"{commit}^{{tree}}").decode().strip()
+            newest = re.findall(r"^## (\S+)", of_release(commit, "CHANGELOG.md").decode(), re.M)[0]
+            self.assertEqual((newest, found), (release, tree), "of " + commit)
+            proved = git(commit, "ls-tree", commit, "c", "crates", "src", "variations").decode()
+            verdicts = of_release(commit, "docs/VERDICTS.md").decode()
+            missing = [it for it in proved.splitlines() if f"\nof: {it}\n" not in verdicts]
+            self.assertEqual(missing, [], f"{commit} has the verdicts of other files")
+
     def test_nothing_of_a_release_is_gone(self) -> None:
         page = (ROOT / "CHANGELOG.md").read_text()
         releases, commits = zip(*re.findall(r"^\| (\d+\.\S+) \| `(\w+)` \|", page, re.M))
