@@ -223,6 +223,19 @@ class Pages(unittest.TestCase):
             self.assertGreater(len(found), 3)
             self.assertEqual(set(found), {bound}, name)
 
+    def test_bounds_of_variations(self) -> None:
+        """The page has those of the definitions: half a unit for each axis."""
+        definitions = squeezed(text("crates/variations/specs/Variations.antt"))
+        shown = " ".join(text("variations/README.md").split())
+        halves = "axis_count regions * sum_of_magnitudes subtable set n"
+        for defined, bound in (
+            ("IsNearScalar region coordinates n scalar = IsOffBy n scalar", "n/2 / 65536."),
+            (f"sum_halves regions subtable set n = {halves}", "1/2 + n/2 * D / 65536 font units"),
+            ("IsOffBy (65536 + sum_halves regions subtable", "1/2 + n/2 * D / 65536 font units"),
+        ):
+            self.assertIn(squeezed(defined), definitions)
+            self.assertIn(f" by at most {bound}", shown)
+
     def test_aliases(self) -> None:
         """The guide's table has the names of other libraries that the search of the documentation
         finds, each beside what it finds."""
