@@ -30,6 +30,9 @@ OTHERS = (
     "strip_suffix type_name bit_and round_steps from_steps scalar_at"
 )
 
+# Folders that a page names, and that a command or a reader makes.
+ELSEWHERE = ("target/release", "crates/my_reader")
+
 # Items of which no test of Rattle shows what they lack: the crate, and the code in one line.
 ITEMS = [
     ("font_base/src/uint24.rt", "#[derive(Debug, Drop, Error)] pub struct TryFromUint24Error;"),
@@ -164,6 +167,8 @@ class Pages(unittest.TestCase):
             for path in of(f"crates/{name}/src/", ".rt")
             if not path.endswith("/laws.rt")
         }
+        paths = {it for path in FILES for it in (path, *map(str, pathlib.Path(path).parents))}
+        ends = {it[at:] for it in paths for at in range(len(it)) if f"/{it}"[at] == "/"}
         # The documentation of each type names its file.
         pages = [path for path in of("", ".md") if path != "CHANGELOG.md"]
         wrong = []
@@ -176,10 +181,11 @@ class Pages(unittest.TestCase):
                 if ("::" in name or "_" in name) and not (set(parts) <= source and in_caller):
                     wrong.append(f"{page}: no code has the name {name}")
             for path in quoted(shown, "/."):
-                is_any = any(not part or part.isupper() for part in re.split("[/.]", path))
-                is_there = path in FILES or of("", "/" + path)
-                if path.endswith((".rt", ".antt", ".rs")) and not is_any and not is_there:
-                    wrong.append(f"{page}: no file has the name {path}")
+                parts = re.split("[/.]", path.rstrip("/"))
+                is_any = any(not part or part.isupper() or part.isdigit() for part in parts)
+                is_path = "/" in path or path.endswith((".rt", ".antt", ".rs"))
+                if is_path and not is_any and path.rstrip("/") not in {*ends, *ELSEWHERE}:
+                    wrong.append(f"{page}: no file or folder has the name {path}")
             for link, place in re.findall(LINK, shown) if page in pages else ():
                 target = (ROOT / page).parent.joinpath(link) if link else ROOT / page
                 if not target.exists():
