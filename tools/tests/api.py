@@ -120,6 +120,10 @@ def whole(head: str, lines: list[str]) -> list[str]:
     return [f"all of {found[1]}: {'; '.join(rest)}"] if found and not is_open else []
 
 
+# An `impl` for every type that has some trait, which meets those that users write.
+BLANKET = re.compile(r"^impl<.*\b(\w+)\b.*> .* for &?\1\b.*", re.M)
+
+
 def of_rust(shown: str) -> Counter[str]:
     """Returns what stays of the library in Rust: the names at its root, and the lines of what has
     such a name, of each `impl` and of macros, but of nothing hidden or private. A line has the name
@@ -128,6 +132,7 @@ def of_rust(shown: str) -> Counter[str]:
     root = library.split("\nsrc/generated/font_types/mod.rs\n")[1].split("\n\n")[0]
     names = re.findall(r"\w+", " ".join(map("".join, USED.findall(root))))
     found = Counter(names)
+    found[f"all of any type: {'; '.join(sorted(it[0] for it in BLANKET.finditer(library)))}"] = 1
     for item in re.split(r"\n+(?=\S)", library):
         head, *lines = item.split("\n")
         of = HEAD.match(head)
@@ -292,6 +297,8 @@ class Api(unittest.TestCase):
             ("    pub fill: u8", "    pub fill: u8\n    pub more: u8", "Pad"),
             ("    const NULL: Self", "    const NULL: Self\n    const MORE: Self", "OffsetValue"),
             ("    impl $Scalar", "    impl Clone for $Name\n        impl $Scalar", "record"),
+            ("\nimpl Eq for Sh", "\nimpl<T: Scalar> IdentityEq for T\nimpl Eq for Sh", "any type"),
+            ("\nimpl Eq for Sh", "\nimpl<H: Copy> Scalar for &H\nimpl Eq for Sh", "any type"),
         ):
             self.assertEqual(listed.count(old), 1, old)
             (told,) = gone(of_rust, listed, listed.replace(old, new))
