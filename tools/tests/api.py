@@ -183,12 +183,17 @@ def gone(lasting: Callable[[str], Counter[str]], old: str, new: str) -> list[str
 # Lines of documentation, the attributes after them, and the line of the item.
 DOCUMENTED = re.compile(r"((?:^ *///.*\n)+)((?:^ *#\[.*\n)*)^( *)(.*)", re.M)
 CLAUSE = re.compile(r"^(?=(?:ensures|requires|ghost|decreases)\b)", re.M)
+# A definition in a file of definitions, up to an empty line.
+DEFINITION = re.compile(
+    r"^(?:pub )?(?:abbrev|unfoldable|record) (?:pub )?(\w+).*?(?=^$|\Z)", re.M | re.S
+)
 
 
 def of_contracts(shown: str) -> Counter[tuple[str, str]]:
-    """Returns the clauses of a package, each with the line of its item, but not with its own name;
-    and its definitions."""
-    names = set(re.findall(r"\w+", " ".join(re.findall(r"pub use [^;]*", shown))))
+    """Returns the clauses of generated Rust, each with the line of its item, but not with its own
+    name; its definitions; and those of files of definitions."""
+    exported = re.findall(r"pub use (?:crate::\w+|delta)::\{([^}]*)\}", shown)
+    names = set(re.findall(r"\w+", " ".join(exported)))
     found: Counter[tuple[str, str]] = Counter()
     for doc, attributes, indent, head in DOCUMENTED.findall(shown):
         free = None if indent else re.match(r"pub .*?\bfn (\w+)", head)
@@ -198,7 +203,18 @@ def of_contracts(shown: str) -> Counter[tuple[str, str]]:
                 clauses = (" ".join(it.split()) for it in CLAUSE.split(code))
                 unnamed = (re.sub(r"^(ensures|requires) \w+ \{", r"\1 {", it) for it in clauses)
                 found.update((head, it) for it in unnamed if it)
+    defined = DEFINITION.finditer(re.sub(" *--.*", "", shown))
+    found.update((f"mod {it[1]}", " ".join(it[0].split())) for it in defined)
     return found
+
+
+# Where contracts of the library stand, and definitions of what `fontval` answers.
+STATED = ["src/generated", "crates/font_lines/specs"]
+
+
+def stated() -> str:
+    files = sorted(it for path in STATED for it in (ROOT / path).rglob("*.*"))
+    return "\n".join(it.read_text() for it in files)
 
 
 def changed(old: str, new: str) -> list[str]:
@@ -264,10 +280,10 @@ class Api(unittest.TestCase):
         first = version.current(".").split(".")[0]
         form = rf"^\| ({first}\.\S+) \| `(\w+)` \|"
         for release, commit in re.findall(form, page, re.M) if first != "0" else ():
-            files = git(commit, "ls-tree", "-r", "--name-only", commit, "src/generated").split()
-            old = "\n".join(of_release(commit, it.decode()).decode() for it in files)
-            new = "\n".join(it.read_text() for it in sorted((ROOT / "src/generated").rglob("*.rs")))
+            files = git(commit, "ls-tree", "-r", "--name-only", commit, *STATED).decode().split()
+            old = "\n".join(of_release(commit, it).decode() for it in files)
             self.assertGreater(len(of_contracts(old)), 500)
+            new = stated()
             since = page.split(f"\n## {release} ")[0].split("\n## ", 1)[1]
             told = set(re.findall(r"\w+", " ".join(since.split("`")[1::2])))
             self.assertEqual([it for it in changed(old, new) if it not in told], [], release)
@@ -321,8 +337,7 @@ class Api(unittest.TestCase):
     def test_changed_contracts(self) -> None:
         """Of planted changes: a weaker clause or definition, and what has to be shown more, but not a
         new name of a clause, nor a clause more that is promised."""
-        files = sorted((ROOT / "src/generated").rglob("*.rs"))
-        shown = "\n".join(it.read_text() for it in files)
+        shown = stated()
         factor = "/// ensures { scale_bits result ≡ fixed_bits factor }\n"
         law = "/// ghost is_scalar: { Self → Bool };\n"
         read = "/// ensures variant { IsSome result ↔ (length slice.now ≡ LEN) }\n"
@@ -334,6 +349,7 @@ class Api(unittest.TestCase):
             (law, f"{law}/// ghost more: {{ (a : Self) → a ≡ a }};\n", ["Scalar"]),
             (read, f"{read}    /// ensures more {{ result ≡ result }}\n", ["from_slice"]),
             ("/// record Decimal (text", "/// record Decimal (words", ["Decimal"]),
+            ("\nonly_word (word ∷ [])", "\nonly_word (word ∷ _)", ["only_word"]),
         ):
             self.assertEqual(shown.count(old), 1, old)
             self.assertEqual(changed(shown, shown.replace(old, new)), names, new)
