@@ -42,6 +42,11 @@ static void check(const char *name, int32_t ours, FT_Long theirs, int32_t x, int
                (int)theirs);
 }
 
+/* What README.md names for FT_Outline_Transform. */
+static void (*const transform_outline)(const fty_matrix *, fty_point *, size_t) =
+#include "outline.inc"
+    ;
+
 /* Two points by a random matrix, as FT_Outline_Transform moves them. */
 static void check_outline(int32_t x, int32_t y) {
     const FT_Matrix a = {any(), any(), any(), any()};
@@ -50,7 +55,7 @@ static void check_outline(int32_t x, int32_t y) {
     fty_point points[] = {{x, y}, {y, x}};
     FT_Outline outline = {0, 2, vectors, NULL, NULL, 0};
     FT_Outline_Transform(&outline, &a);
-    fty_matrix_transform_points(&m, points, 2);
+    transform_outline(&m, points, 2);
     for (int i = 0; i < 2; i++) {
         check("points.x", points[i].x, vectors[i].x, x, y, i);
         check("points.y", points[i].y, vectors[i].y, x, y, i);
@@ -61,6 +66,11 @@ static void check_outline(int32_t x, int32_t y) {
 static fty_matrix multiplied(fty_matrix a, fty_matrix b) {
 #include "multiply.inc"
     return b;
+}
+
+/* What README.md names for FT_Vector_Transform(&v, &m). */
+static fty_point transformed(fty_point v, fty_matrix m) {
+#include "transform.inc"
 }
 
 int main(int count, char **arguments) {
@@ -91,7 +101,9 @@ int main(int count, char **arguments) {
         check("product.xy", c.xy, b.xy, x, y, z);
         check("product.yy", c.yy, b.yy, x, y, z);
         FT_Vector v = {x, y};
-        fty_point p = fty_matrix_transform_vector(m, (fty_point){x, y});
+        /* The matrix of FreeType has no translation. */
+        m.dx = any(), m.dy = any();
+        fty_point p = transformed((fty_point){x, y}, m);
         FT_Vector_Transform(&v, &a);
         check("vector.x", p.x, v.x, x, y, z);
         check("vector.y", p.y, v.y, x, y, z);

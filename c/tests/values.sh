@@ -54,7 +54,11 @@ links_freetype() {
         cc -x c - $(pkg-config --libs freetype2) -o "$work/linked" <<<'int main(void) {}'
 }
 if ! fails links_freetype; then
-    sed -n 's/^| `FT_Matrix_Multiply(&a, &b)` | `\(.*\)` | .*/\1;/p' README.md >"$work/multiply.inc"
+    # What the page names for a function of FreeType.
+    named() { sed -n "s/^| \`$1\` | \`\([^\`]*\)\` | .*/\1/p" README.md; }
+    echo "$(named 'FT_Matrix_Multiply(&a, &b)');" >"$work/multiply.inc"
+    echo "return $(named 'FT_Vector_Transform(&v, &m)');" >"$work/transform.inc"
+    named FT_Outline_Transform >"$work/outline.inc"
     # Other rows name one function or more, each of which is compared in a line.
     rows=$(grep -E '^\| `FT_(Mul|Div|Floor|PIX)[A-Za-z]*`?.*fty_' README.md | awk -F'|' '{
         count = split($2, theirs, "`")
