@@ -71,6 +71,27 @@ fn errors_of_the_reference() {
     }
 }
 
+// Of each ending of the answer to a tag, a tag, and what its row says. Tests below show each status.
+#[test]
+fn tags_and_statuses_of_the_reference() {
+    let page = include_str!("../docs/FONTVAL.md");
+    let byte = "the byte at index P is outside of 0x20 to 0x7E, or it is a space at the start";
+    for (tag, words, row, says) in [
+        ("67687379", "valid", "valid", "the tag is valid"),
+        ("20202020", "length", "length", "the tag is four spaces"),
+        ("20414243", "byte 0", "byte P", byte),
+        ("41427F44", "byte 2", "byte P", byte),
+        ("41204344", "space 2", "space P", "the byte at index P is from 0x21 to 0x7E, and follows"),
+    ] {
+        let answer = String::from_utf8(answers("tag", format!("tag {tag}").as_bytes())).unwrap();
+        assert!(answer.ends_with(&format!(" {words}\n")), "{answer}");
+        assert!(page.contains(&format!("\n| `{row}` | {says}")), "{row}");
+    }
+    for row in ["2 | the program got an argument", "1 | reading, writing or", "0 | otherwise"] {
+        assert!(page.contains(&format!("\n| {row}")), "{row}");
+    }
+}
+
 // The answers to an input that is cut after a line feed are those to its parts.
 #[test]
 fn stored_lines_in_parts() {
