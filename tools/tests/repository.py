@@ -242,6 +242,13 @@ class Pages(unittest.TestCase):
             self.assertIn(squeezed(defined), definitions)
             self.assertIn(f" by at most {bound}", shown)
 
+    def test_steps(self) -> None:
+        """CONTRIBUTING has a row for each step of `make check`."""
+        (steps,) = re.findall(r"^STEPS := (.*)", text("Makefile"), re.M)
+        _, page = text("CONTRIBUTING.md").split("\n### What `make check` runs\n")
+        rows = re.findall(r"^\| `([\w-]+)` \|", page.split("\n## ")[0], re.M)
+        self.assertEqual(sorted(rows), sorted(steps.split()))
+
     def test_aliases(self) -> None:
         """The guide's table has the names of other libraries that the search of the documentation
         finds, each beside what it finds."""
