@@ -392,6 +392,12 @@ class Package(unittest.TestCase):
             for link in text(page).split("](")[1:] if page.endswith(".md") else ():
                 self.assertTrue(link.startswith("https:"), f"{page}: {link[:40]}")
 
+    def test_fixed_files(self) -> None:
+        """Rattle refuses threads, sockets and programs, and both packages have the same licenses."""
+        self.assertEqual(text("HANDLES"), "Handles allowed: none.\n")
+        for name in of("LICENSE-"):
+            self.assertEqual(text(f"variations/{name}"), text(name))
+
     def test_versions(self) -> None:
         """All places have the version of their `Cargo.toml`, all packages and pages the Rust and
         the license of the library, and no package is for a registry."""
