@@ -141,7 +141,9 @@ def of_rust(shown: str) -> Counter[str]:
             found.update(it for it in [DERIVED.sub("", head)] if not it.startswith("src/"))
             found.update([*(f"{it} of {of[1]}" for it in derived), *whole(head, lines)])
             shown_lines = (it for it in lines if not re.match(r".*#\[doc\(hidden\)| +_:", it))
-            found.update(f"{of[1] or head}: {it.strip()}" for it in shown_lines)
+            # What a macro writes is listed below its file, from which it may move.
+            place = of[1] or re.sub(r"^src/.*", "a macro", head)
+            found.update(f"{place}: {it.strip()}" for it in shown_lines)
     return found
 
 
@@ -303,6 +305,7 @@ class Api(unittest.TestCase):
             ("Clone, Copy)] pub struct Short", "Copy)] pub struct Short", ["Clone of Shortest"]),
             ("trait OffsetValue: Copy", "trait OffsetValue", ["pub trait OffsetValue: Copy"]),
             ("pub const fn max_text_len", "fn max_text_len", []),
+            ("src/methods.rs", "src/literals.rs", []),
             ("pub fn is_empty(", "pub const fn is_empty(", []),
             ("\nimpl Debug for Shortest", "\nimpl Debug for Shortest\nimpl Ord for Shortest", []),
         ):
