@@ -140,7 +140,8 @@ def of_rust(shown: str) -> Counter[str]:
             derived = re.findall(r"\w+", " ".join(DERIVED.findall(head)))
             found.update(it for it in [DERIVED.sub("", head)] if not it.startswith("src/"))
             found.update([*(f"{it} of {of[1]}" for it in derived), *whole(head, lines)])
-            shown_lines = (it for it in lines if not re.match(r".*#\[doc\(hidden\)| +_:", it))
+            hidden = re.compile(r".*#\[doc\(hidden\)| +_:|$")
+            shown_lines = (it for it in lines if not hidden.match(it))
             # What a macro writes is listed below its file, from which it may move.
             place = of[1] or re.sub(r"^src/.*", "a macro", head)
             found.update(f"{place}: {it.strip()}" for it in shown_lines)
@@ -306,6 +307,7 @@ class Api(unittest.TestCase):
             ("trait OffsetValue: Copy", "trait OffsetValue", ["pub trait OffsetValue: Copy"]),
             ("pub const fn max_text_len", "fn max_text_len", []),
             ("src/methods.rs", "src/literals.rs", []),
+            ("\n\nvariations/src/gen", "\nimpl Add for Pad\n\nvariations/src/gen", []),
             ("pub fn is_empty(", "pub const fn is_empty(", []),
             ("\nimpl Debug for Shortest", "\nimpl Debug for Shortest\nimpl Ord for Shortest", []),
         ):
