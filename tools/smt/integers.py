@@ -2,6 +2,7 @@
 
 import math
 from collections.abc import Iterable, Iterator
+from contextlib import suppress
 from typing import Any
 
 import z3
@@ -176,3 +177,16 @@ class Integers:
                 a, b = (signed(it, some[0].size()) for it in (a, b))
             return {"<=": a <= b, "<": a < b, ">=": a >= b, ">": a > b}[ORDER[kind].lstrip("s")]
         raise Unsupported(f"{term.decl()}")
+
+    def premises(self, conditions: Iterable[BoolRef]) -> list[BoolRef]:
+        """Returns conditions of bits as those of integers, with the bounds of what is in them. One
+        that is not read is left out."""
+        found = []
+        for it in conditions:
+            with suppress(Unsupported):
+                found.append(self.truth(it))
+        for it in list(subterms(found)):
+            if z3.is_app_of(it, z3.Z3_OP_UNINTERPRETED) and it.decl().name() in self.bounds:
+                low, high = self.bounds[it.decl().name()]
+                found.append(z3.And(low <= it, it <= high))
+        return found

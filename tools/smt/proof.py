@@ -14,6 +14,7 @@ from inputs import (
     ELEMENTS, Given, Inputs, byte_of, chosen, inputs, of_model, result_width, run_library, shown,
     shown_result, use_pointers,
 )  # fmt: skip
+from integers import Integers
 from ir import Module
 from loops import Loops
 from execution import End, Machine
@@ -26,6 +27,7 @@ from values import Unsupported, constant, number_of
 SEARCH = 3000
 # The most elements of a slice in an argument that is shown.
 MOST = 12
+WRONG, OUTSIDE = "wrong result", "out of bounds"
 
 
 class Refused(Exception):
@@ -99,7 +101,7 @@ class Proof:
                 self.refute("the result is poison", end.conditions + [value.poison])
             right = self.right(self.products, self.given, value.bits, end)
             for part in right:
-                self.refute("wrong result", end.conditions + [z3.Not(part)])
+                self.refute(WRONG, end.conditions + [z3.Not(part)])
             conditions = z3.And(end.conditions)
             is_met = is_met or self.solver(conditions, self.arithmetic.facts).check() == z3.sat
         if not is_met:
@@ -141,6 +143,18 @@ class Proof:
         solver.add(goal, *facts)
         return solver
 
+    def is_refuted(self, conditions: list[BoolRef]) -> bool:
+        """Returns whether the conditions exclude each other, read as those of integers."""
+        premises = Integers().premises([*conditions, *self.arithmetic.facts])
+        # A solver without tactics may not end.
+        solver = z3.Solver()
+        solver.set("rlimit", QUICK)
+        solver.add(*premises)
+        if solver.check() != z3.unsat:
+            return False
+        ask(premises)
+        return True
+
     def refute(self, why: str, conditions: list[BoolRef]) -> None:
         """Shows that the conditions exclude each other."""
         self.goals += 1
@@ -148,9 +162,14 @@ class Proof:
         if z3.is_false(goal):
             return ask(conditions)
         self.asked += 1
+        # That an index is in bounds is shown of integers, because of bits it takes long.
+        if OUTSIDE in why and self.is_refuted(conditions):
+            return None
         # Most goals need no fact.
-        if self.arithmetic.facts and self.solver(goal, [], QUICK).check() == z3.unsat:
+        if self.solver(goal, [], QUICK).check() == z3.unsat:
             return ask(conditions)
+        if why != WRONG and OUTSIDE not in why and self.is_refuted(conditions):
+            return None
         solver = self.solver(goal, self.arithmetic.facts)
         answer = solver.check()
         if answer == z3.unsat:
