@@ -86,7 +86,7 @@ def wrapper(case: Case) -> str:
     head = '#[unsafe(no_mangle)] pub extern "C-unwind" fn'
     return (
         f"{head} {case.symbol}({', '.join(parameters)}) -> {result} {{ {value} }}\n"
-        f"{head} call_{case.symbol}(numbers: &[u128; 14], result: &mut u128)\n"
+        f"{head} call_{case.symbol}(numbers: &[u128; 16], result: &mut u128)\n"
         f"{{ *result = {case.symbol}({numbers}) as u128; }}\n"
     )
 

@@ -169,7 +169,7 @@ class Numbers:
 
 def run_library(library: ctypes.CDLL, case: Case, given: Given) -> tuple[int, dict[str, bytes]]:
     """Returns what the compiled Rust returns, and what it leaves in each slice."""
-    numbers, result, at = Numbers(14), Numbers(1), 0
+    numbers, result, at = Numbers(16), Numbers(1), 0
     rooms = {}
     for name, type_ in case.parameters:
         value = given[name]

@@ -44,6 +44,20 @@ class Kind(NamedTuple):
     make: str
     get: str
 
+    @property
+    def type(self) -> str:
+        return self.name.replace("::<", "<")
+
+    @property
+    def result(self) -> str:
+        """The type of the integer that `get` returns."""
+        return self.integer if "u32" not in self.get else "u32"
+
+    def value(self, stored_bytes: list[Any]) -> Any:
+        """The integer of the bytes."""
+        extend = S if self.integer[0] == "i" else U
+        return wrap(int(self.result[1:]), extend(together(stored_bytes)))
+
 
 SCALARS = [Kind(name, int(size), *others) for name, size, *others in map(str.split, """\
 Fixed 4 i32 Fixed::from_bits(x) .to_bits()
@@ -75,10 +89,7 @@ BYTES = "abcdefgh"
 def bytes_of(kind: Kind) -> None:
     """"Decoding is the inverse of encoding", and both are by the stored integer."""
     T, size, i, make, get = kind
-    w, signed, value = int(i[1:]), i[0] == "i", T.replace("::<", "<")
-    result = i if "u32" not in get else "u32"
-    out = 32 if result == "u32" else w
-    extended = lambda it: wrap(out, (S if signed else U)(together(it)))
+    value, result, extended = kind.type, kind.result, kind.value
     # Integers of 24 bits saturate.
     clip = (lambda x: S(saturate(24, S(x)))) if T == "Int24" else (
         lambda x: low(U(x), LARGEST) if size == 3 else U(x))
