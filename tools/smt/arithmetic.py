@@ -85,6 +85,12 @@ class Arithmetic:
         width, greatest = a.size(), self.greatest(a) * self.greatest(b)
         if self.exact or is_constant(a) or is_constant(b):
             return self.keep(a * b, greatest) if greatest < 1 << width else a * b
+        for few, it in ((a, b), (b, a)):
+            # Of a factor of few bits, the sum of the multiples that its bits say.
+            if self.greatest(few) < 1 << 4:
+                bits = range(self.greatest(few).bit_length())
+                parts = [z3.If(z3.Extract(i, i, few) == 1, it << i, 0) for i in bits]
+                return self.keep(z3.Sum(parts), min(greatest, (1 << width) - 1))
         a, b = sorted((a, b), key=order)
         node, is_new = self.unknown("product", operator.mul, a, b, min(greatest, (1 << width) - 1))
         if greatest < 1 << width and is_new:

@@ -11,6 +11,11 @@ from rows.row import Case
 
 # How a slice of unknown length is passed: the type of its elements.
 SLICES = {"bytes": "u8", "room": "u8", "terms": "(Fixed, i32)"}
+# The other package, which calls this one by its name.
+VARIATIONS = """
+extern crate self as font_types_proved;
+#[path = "../variations/generated/mod.rs"] pub mod variations;
+"""
 HEAD = """
 #[allow(warnings)]
 #[allow(clippy::all)]
@@ -30,6 +35,10 @@ COMMON = f"""--edition 2024 --crate-name {CRATE} --cap-lints allow -C codegen-un
     -C panic=unwind""".split()
 OPTIONS = """--crate-type cdylib -C opt-level=2 -C no-vectorize-loops -C no-vectorize-slp
     -C llvm-args=-unroll-runtime=false --emit llvm-ir,link""".split()
+
+
+# The sources of both packages and of the exports for C, and where they are copied to.
+PARTS = {"src": "src", "c/src": "c", "variations/src": "variations"}
 
 
 class Built(NamedTuple):
@@ -110,11 +119,11 @@ def exports(room: Path) -> tuple[str, str]:
 
 def compiled(tree: Path, room: Path, wrappers: str, options: list[str]) -> str:
     """Returns the IR of a copy of the package in a room, with wrappers."""
-    shutil.copytree(tree / "src", room / "src")
-    shutil.copytree(tree / "c/src", room / "c")
+    for part, name in PARTS.items():
+        shutil.copytree(tree / part, room / name)
     module, foreign = exports(room / "c")
     with (room / "src/lib.rs").open("a") as lib:
-        lib.write(f"{module}{HEAD}{foreign}{wrappers}}}\n")
+        lib.write(f"{module}{VARIATIONS}{HEAD}{foreign}{wrappers}}}\n")
     options = [*options, "--emit", "dep-info", "--out-dir", str(room)]
     command = ["rustc", *COMMON, *options, str(room / "src/lib.rs")]
     done = subprocess.run(command, capture_output=True, text=True)

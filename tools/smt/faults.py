@@ -10,7 +10,7 @@ from importlib import import_module
 from pathlib import Path
 from typing import Any
 
-from build import Refusal, build
+from build import PARTS, Refusal, build
 from ir import Module
 from proof import Refused, Unknown
 from table import Row, proof_of, rows, wrappers
@@ -75,12 +75,12 @@ def report(tree: Path, only: str) -> int:
         if not re.search(only, edit.name):
             continue
         verdict, shown = edit.reason or "", ""
-        if not verdict and not edit.file.startswith(("src/", "c/src/")):
+        if not verdict and not edit.file.startswith(tuple(f"{it}/" for it in PARTS)):
             verdict = "of another package"
         if not verdict:
             with tempfile.TemporaryDirectory() as room:
                 copy = Path(room)
-                for part in ("src", "c/src"):
+                for part in PARTS:
                     shutil.copytree(tree / part, copy / part)
                 text = (copy / edit.file).read_text()
                 for start, end, new in sorted(edit.changes, reverse=True):

@@ -5,6 +5,7 @@ from rows import fixed as fixed
 from rows import geometry as geometry
 from rows import ids as ids
 from rows import scalars as scalars
+from rows import variations as variations
 from rows import arrays as arrays
 from rows import exports as exports  # isort: skip
 from rows.row import CASES as CASES

@@ -212,12 +212,11 @@ class Products:
             return [(z3.If(negative, -q, q), z3.BoolVal(True))]
         found = []
         for q, divisor in arithmetic.quotients:
-            if divisor.size() == 64:
-                # A fact of quotients says that this is their product as integers.
-                multiple = U(arithmetic.multiply(q, divisor))
-                over, under = multiple - U(product), U(product) - multiple
-                is_nearest = z3.And(divisor == d, 2 * over <= U(d), 2 * under < U(d))
-                found.append((z3.If(negative, -U(q), U(q)), is_nearest))
+            # A fact of quotients says that this is their product as integers.
+            multiple = U(arithmetic.multiply(q, divisor))
+            over, under = multiple - U(product), U(product) - multiple
+            is_nearest = z3.And(U(divisor) == U(d), 2 * over <= U(d), 2 * under < U(d))
+            found.append((z3.If(negative, -U(q), U(q)), is_nearest))
         return found
 
 
