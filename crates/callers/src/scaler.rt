@@ -1,4 +1,7 @@
 //! A scaler of outlines: points through two matrices, and numbers of font units on a grid.
+//!
+//! This is a file of numbers, so it names `numbers` in place of `calls`.
+#![tactic(auto, using(font_types::proofs::Callers::numbers))]
 
 ghost use Rattle.std.specs.Prelude.{◌≡◌, ◌≢◌, ◌*◌, ◌^◌, pos, ◌+ℤ◌, ◌-ℤ◌, ◌*ℤ◌, ◌≤ℤ◌, ◌<ℤ◌, length};
 ghost use Rattle.std.specs.Prelude.{◌↔◌, ◌≤◌, IsSome, IfSome, unsigned_abs};
@@ -75,9 +78,6 @@ pub fn composed_of_three(a: Matrix<Fixed>, b: Matrix<Fixed>, c: Matrix<Fixed>) -
 }
 
 /// Scales font units to 26.6: the width of a stem, rounded once, half up.
-///
-/// The product is exact and bounded by `calls`, and narrowed by `narrowings`.
-#[tactic(auto, using(font_types::proofs::Callers::calls, font_types::proofs::Callers::narrowings))]
 pub fn scaled_width(width: FWord, scale: Fixed) -> F26Dot6
     requires { (pos 0 ≤ℤ fixed_bits scale) × (fixed_bits scale ≤ℤ fixed_bits Fixed.ONE) }
     ensures { f26dot6_bits result ≡ up (fword_number width *ℤ fixed_bits scale) 1024 }
@@ -86,9 +86,6 @@ pub fn scaled_width(width: FWord, scale: Fixed) -> F26Dot6
 }
 
 /// Rounds to half a grid line: the middle of the pixel of a coordinate.
-///
-/// The integer and the constant that is added to it take the ruleset `integers`.
-#[tactic(auto, using(font_types::proofs::Callers::integers))]
 pub fn half_line(y: F26Dot6) -> F26Dot6
     requires { FitsBits 32 (f26dot6_bits y +ℤ pos 32) }
     ensures half { IsIntegral 6 (f26dot6_bits result +ℤ pos 32) }
@@ -133,7 +130,6 @@ pub fn halfway(a: i16, b: i16) -> i16
 }
 
 /// Rounds by a shift, half up: the average of two coordinates on an axis.
-#[tactic(auto, using(std::proofs::lemmas::Int::wraps, font_types::proofs::Callers::shifts))]
 pub fn average(a: F2Dot14, b: F2Dot14) -> F2Dot14
     ensures { f2dot14_bits result ≡ up (f2dot14_bits a +ℤ f2dot14_bits b) 2 }
 {
@@ -142,9 +138,6 @@ pub fn average(a: F2Dot14, b: F2Dot14) -> F2Dot14
 }
 
 /// Divides two differences: the scalar of a region, from the start of its axis to the peak.
-///
-/// The ruleset `lerps` also has quotients of differences, and `mul_div` of them.
-#[tactic(auto, using(font_types::proofs::Callers::calls, font_types::proofs::Callers::lerps))]
 pub fn rising(start: F2Dot14, peak: F2Dot14, at: F2Dot14) -> Fixed
     requires { (f2dot14_bits start ≤ℤ f2dot14_bits at) × (f2dot14_bits at ≤ℤ f2dot14_bits peak)
         × (f2dot14_bits start <ℤ f2dot14_bits peak) }
@@ -157,9 +150,6 @@ pub fn rising(start: F2Dot14, peak: F2Dot14, at: F2Dot14) -> Fixed
 }
 
 /// Scales between two values by the formula: at any `t` of the way from one master to another.
-///
-/// The ruleset `lerps` states the wrapped result as one formula, for any `t`.
-#[tactic(auto, using(font_types::proofs::Callers::calls, font_types::proofs::Callers::lerps))]
 pub fn blend(from: Fixed, to: Fixed, t: Fixed) -> Fixed
     requires { FitsBits 32 (fixed_bits to -ℤ fixed_bits from) }
     ensures { fixed_bits result ≡ wrap 32 (fixed_bits from
@@ -170,8 +160,7 @@ pub fn blend(from: Fixed, to: Fixed, t: Fixed) -> Fixed
 
 /// Interpolates: the delta of a point between two points that have deltas.
 ///
-/// The ruleset `lerps` has the value for each order of the two deltas.
-#[tactic(auto, using(font_types::proofs::Callers::calls, font_types::proofs::Callers::lerps))]
+/// The value has a clause for each order of the two deltas.
 pub fn interpolated(a: Fixed, b: Fixed, at: Fixed, from: Fixed, to: Fixed) -> Fixed
     requires between { (fixed_bits a ≤ℤ fixed_bits at) × (fixed_bits at ≤ℤ fixed_bits b)
         × (fixed_bits a <ℤ fixed_bits b) }
@@ -188,9 +177,6 @@ pub fn interpolated(a: Fixed, b: Fixed, at: Fixed, from: Fixed, to: Fixed) -> Fi
 }
 
 /// Scales by a ratio: a value at another size, as one formula.
-///
-/// The ruleset `lerps` has the value of a `mul_div`.
-#[tactic(auto, using(font_types::proofs::Callers::calls, font_types::proofs::Callers::lerps))]
 pub fn resized(value: Fixed, size: Fixed, units: Fixed) -> Fixed
     requires { fixed_bits units ≢ pos 0 }
     ensures { fixed_bits result
@@ -200,9 +186,6 @@ pub fn resized(value: Fixed, size: Fixed, units: Fixed) -> Fixed
 }
 
 /// Scales two values, in order: edges by one ratio, which keeps their order if neither overflows.
-///
-/// The ruleset `orders` has this of two results of `mul_div`.
-#[tactic(auto, using(font_types::proofs::Callers::orders))]
 pub fn scaled_edges(low: Fixed, high: Fixed, size: Fixed, units: Fixed) -> (Fixed, Fixed)
     requires { (pos 0 ≤ℤ fixed_bits size) × (pos 0 <ℤ fixed_bits units) }
     ensures low { IsMulDiv 32 (fixed_bits low) (fixed_bits size) (fixed_bits units)
@@ -262,9 +245,6 @@ fn half_down(y: F26Dot6) -> F26Dot6
 }
 
 /// Rounds half away from zero: a distance on the grid, or `None` on overflow.
-///
-/// The ruleset `ties` has `near` for each sign: half up, and half down.
-#[tactic(auto, using(font_types::proofs::Callers::ties))]
 pub fn whole_distance(distance: F26Dot6) -> Option<F26Dot6>
     ensures variant { IsSome result ↔ FitsBits 32 (near (f26dot6_bits distance) 64 *ℤ pos 64) }
     ensures value { IfSome result (λ whole.
@@ -280,7 +260,6 @@ pub fn whole_distance(distance: F26Dot6) -> Option<F26Dot6>
 /// Adds the numbers of two slices: advances, each with the kerning after it; wrapped once.
 ///
 /// The loop goes by index, and the sum is stated by `total_below`, a sum over an index.
-#[tactic(auto, using(font_types::proofs::Callers::calls, font_types::proofs::Callers::lerps))]
 pub fn kerned_width(advances: &[Fixed], kerning: &[Fixed]) -> Fixed
     requires { length advances.now ≡ length kerning.now }
     ensures { fixed_bits result
@@ -310,7 +289,6 @@ pub fn kerned_width_by_zip(advances: &[Fixed], kerning: &[Fixed]) -> Fixed
 }
 
 /// Scales two numbers by a `Scale`, in order: advances, of which the wider one stays no narrower.
-#[tactic(auto, using(font_types::proofs::Callers::calls, font_types::proofs::Callers::orders))]
 pub fn scaled_advances(narrow: UfWord, wide: UfWord, scale: Scale) -> (F26Dot6, F26Dot6)
     requires { pos 0 ≤ℤ scale_bits scale }
     ensures narrow { f26dot6_bits result.0
@@ -331,7 +309,6 @@ pub fn scaled_advances(narrow: UfWord, wide: UfWord, scale: Scale) -> (F26Dot6, 
 /// Rounds two numbers to integers, in order: widths in whole pixels, or `None` if one overflows.
 ///
 /// The order of the two steps, scaled and rounded, is that of each, in a function of its own.
-#[tactic(auto, using(font_types::proofs::Callers::calls, font_types::proofs::Callers::orders))]
 pub fn whole_widths(low: F26Dot6, high: F26Dot6) -> Option<(i32, i32)>
     ensures variant { IsSome result
         ↔ (FitsBits 26 (up (f26dot6_bits low) 64) × FitsBits 26 (up (f26dot6_bits high) 64)) }

@@ -1,5 +1,6 @@
--- Lemmas of this crate and those below for its callers: the ruleset `calls`, which a crate names once at its head, and
--- lemmas for answers.
+-- Lemmas of this crate and those below for its callers: the ruleset `calls`, which a crate names once at its head,
+-- `numbers`, which a file of numbers names at its head, and lemmas for answers.
+use Rattle.std.proofs.lemmas.Int.{ints}
 use Rattle.font_base.proofs.ScalarCalls.{scalar_calls}
 use Rattle.font_fixed.proofs.{Calls.calls_16, Calls.calls_32, Calls.calls_64, Shifts.shr_low, Shifts.shr_high}
 use Rattle.font_fixed.proofs.Shifts.{average_fits_16, average_is}
@@ -131,3 +132,33 @@ pub ruleset records_1_3_8 = (other_record_calls)
 
 -- for a header of four fields of 4 bytes that is encoded, or encoded and decoded, in place of `calls`
 pub ruleset headers = (header_calls)
+
+-- for a file of numbers, in place of `calls`: what `calls` has of numbers, and the rulesets of numbers above. By std's
+-- `ints`, `grind` reads the order of integers; without it, `grind` splits each integer by its sign, and soon gives up.
+pub ruleset numbers = (
+  fixed_calls,
+  calls_16,
+  calls_64,
+  integral_calls,
+  exact_sum_is_integral,
+  narrow_calls,
+  quarter_neg_one,
+  sum_calls_from,
+  sum_calls_16,
+  sum_calls_32,
+  delta_rules,
+  below_calls,
+  magnitude_calls,
+  bound_calls,
+  unit_calls,
+  scaled_calls,
+  part_calls,
+  between_calls,
+  lerps,
+  integers,
+  narrowings,
+  orders,
+  ties,
+  shifts,
+  ints,
+)
