@@ -1,4 +1,7 @@
 //! A linter of tags and of the records of a table directory.
+//!
+//! This is a file of bytes, so it names `tables` in place of `calls`.
+#![tactic(auto, using(font_types::proofs::Callers::tables))]
 
 ghost use Rattle.std.specs.List.Sorted.{IsPermutation, IsSortedByKey};
 ghost use Rattle.std.specs.List.{AllAdjacentBelow, sum_by};
@@ -90,7 +93,6 @@ pub fn checksum(words: ScalarArray<'_, u32>) -> u32
 /// returns `None` if the directory ends before them.
 ///
 /// The last field is written first: if it has no room, nothing has been written.
-#[tactic(auto, using(font_types::proofs::Callers::calls, font_types::proofs::Callers::writes))]
 pub fn mend_record(directory: &mut [u8], at: usize, checksum: u32, offset: u32) -> Option<()>
     ensures variant { IsSome result ↔ (at + 12 ≤ length directory.old) }
     ensures before { take (at + 4) directory.new ≡ take (at + 4) directory.old }

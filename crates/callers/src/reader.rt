@@ -1,4 +1,7 @@
 //! A reader of tables: vertical origins, in `VORG`.
+//!
+//! This is a file of bytes, so it names `tables` in place of `calls`.
+#![tactic(auto, using(font_types::proofs::Callers::tables))]
 
 ghost use Rattle.std.specs.Prelude.{◌≡◌, ◌≢◌, ◌↔◌, ◌≤◌, ◌<◌, ◌+◌, ◌*◌, ◌^◌, ◌&&◌, ◌++◌, pos};
 ghost use Rattle.std.specs.Prelude.{IsSome, IfSome, IfNone, MatchOption, Some, ℕ, length, take};
@@ -189,9 +192,6 @@ pub fn written_origin(vorg: &mut [u8], at: usize, origin: GlyphOrigin) -> Option
 }
 
 /// Reads a field of a record where it stands: the vertical origin at an index of `VORG`.
-///
-/// The lemma `second_2_2` is for a second field of 2 bytes, after a first field of 2 bytes.
-#[tactic(auto, using(font_types::proofs::Callers::calls, font_types::proofs::Callers::second_2_2))]
 pub fn origin_at(vorg: &[u8], index: u16) -> Option<FWord>
     ensures variant { IsSome result ↔ (8 + index * 4 + 4 ≤ length vorg.now) }
     ensures value { IfSome result (λ origin. fword_number origin
@@ -255,9 +255,6 @@ impl Scalar for Group {
 }
 
 /// Takes an array after its count: 32-bit numbers, or `None` if the list ends before they do.
-///
-/// The lemma `behind_2` is for what stands behind a count of 2 bytes.
-#[tactic(auto, using(font_types::proofs::Callers::calls, font_types::proofs::Callers::behind_2))]
 pub fn counted_numbers(list: &[u8]) -> Option<ScalarArray<'_, u32>>
     ensures variant { IsSome result
         ↔ ((2 ≤ length list.now) × (2 + numeral (take 2 list.now) * 4 ≤ length list.now)) }
@@ -271,9 +268,6 @@ pub fn counted_numbers(list: &[u8]) -> Option<ScalarArray<'_, u32>>
 }
 
 /// Takes an array after its count, from the rest of a slice: the glyphs of a coverage, in format 1.
-///
-/// `rests` is for what stands in the rest of a slice that `get(k..)` returns.
-#[tactic(auto, using(font_types::proofs::Callers::calls, font_types::proofs::Callers::rests))]
 pub fn covered_glyphs(coverage: &[u8]) -> Option<ScalarArray<'_, GlyphId16>>
     ensures variant { IsSome result ↔ ((4 ≤ length coverage.now)
         × (4 + numeral (take 2 (drop 2 coverage.now)) * 2 ≤ length coverage.now)) }
@@ -288,7 +282,6 @@ pub fn covered_glyphs(coverage: &[u8]) -> Option<ScalarArray<'_, GlyphId16>>
 }
 
 /// Reads a field of a table at an offset: the first glyph of the classes of `GDEF`, in format 1.
-#[tactic(auto, using(font_types::proofs::Callers::calls, font_types::proofs::Callers::rests))]
 pub fn first_in_classes(gdef: &[u8]) -> Option<GlyphId16>
     ensures variant { IsSome result ↔ ((6 ≤ length gdef.now)
         × (numeral (take 2 (drop 4 gdef.now)) + 4 ≤ length gdef.now)) }
@@ -301,7 +294,6 @@ pub fn first_in_classes(gdef: &[u8]) -> Option<GlyphId16>
 }
 
 /// Reads a field of a table that `follow` returns: how many glyphs those classes are for.
-#[tactic(auto, using(font_types::proofs::Callers::calls, font_types::proofs::Callers::follows))]
 pub fn count_in_classes(gdef: &[u8]) -> Option<u16>
     ensures { IfSome result (λ count. count
         ≡ numeral (take 2 (drop (numeral (take 2 (drop 4 gdef.now)) + 4) gdef.now))) }
@@ -357,7 +349,6 @@ impl Scalar for Variant {
 }
 
 /// Writes a record and reads it, whose fields have other sizes: itself, or `None` without room.
-#[tactic(auto, using(font_types::proofs::Callers::records_1_3_8))]
 pub fn written_variant(cmap: &mut [u8], at: usize, variant: Variant) -> Option<Variant>
     ensures variant { IsSome result ↔ (at + 5 ≤ length cmap.old) }
     ensures value { IfSome result (λ read. read ≡ variant) }
@@ -377,9 +368,6 @@ pub fn character_at(cmap: &[u8], at: usize) -> Option<Uint24>
 }
 
 /// Writes a field of 8 bytes and reads it: a date of `head`, or `None` without room.
-///
-/// The lemma `signed_field_8` is for a signed field of 8 bytes.
-#[tactic(auto, using(font_types::proofs::Callers::signed_field_8))]
 pub fn written_date(head: &mut [u8], at: usize, date: LongDateTime) -> Option<LongDateTime>
     ensures variant { IsSome result ↔ (at + 8 ≤ length head.old) }
     ensures value { IfSome result (λ read. read ≡ date) }
@@ -391,7 +379,6 @@ pub fn written_date(head: &mut [u8], at: usize, date: LongDateTime) -> Option<Lo
 /// Writes a part of a table, at an offset: an advance width, and the offset after it.
 ///
 /// The clause `after` is of each place from there on.
-#[tactic(auto, using(font_types::proofs::Callers::calls, font_types::proofs::Callers::writes))]
 fn put_advance(hmtx: &mut [u8], at: usize, advance: UfWord) -> usize
     requires { at + 2 ≤ length hmtx.old }
     ensures offset { result ≡ at + 2 }
@@ -461,7 +448,6 @@ pub fn decode_metrics(bytes: &[u8]) -> Option<LineMetrics>
 }
 
 /// Encodes fields and decodes them: themselves.
-#[tactic(auto, using(font_types::proofs::Callers::records))]
 pub fn metrics_again(metrics: LineMetrics) -> Option<LineMetrics>
     ensures { result ≡ Some metrics }
 {
@@ -478,7 +464,6 @@ pub struct AxisRange {
 }
 
 /// Encodes four fields of 4 bytes: the bytes of each.
-#[tactic(auto, using(font_types::proofs::Callers::headers))]
 pub fn encode_range(axis: AxisRange) -> [u8; 16]
     ensures { result ≡ range_bytes axis }
 {
@@ -509,7 +494,6 @@ pub fn decode_range(bytes: &[u8]) -> Option<AxisRange>
 }
 
 /// Encodes four fields of 4 bytes and decodes them: themselves.
-#[tactic(auto, using(font_types::proofs::Callers::headers))]
 pub fn range_again(axis: AxisRange) -> Option<AxisRange>
     ensures { result ≡ Some axis }
 {

@@ -1,5 +1,5 @@
 -- Lemmas of this crate and those below for its callers: the ruleset `calls`, which a crate names once at its head,
--- `numbers`, which a file of numbers names at its head, and lemmas for answers.
+-- `numbers` and `tables`, which a file of numbers or of bytes names at its head, and lemmas for answers.
 use Rattle.std.proofs.lemmas.Int.{ints}
 use Rattle.font_base.proofs.ScalarCalls.{scalar_calls}
 use Rattle.font_fixed.proofs.{Calls.calls_16, Calls.calls_32, Calls.calls_64, Shifts.shr_low, Shifts.shr_high}
@@ -18,7 +18,7 @@ use Rattle.font_types.proofs.StoredBytes.{first_24_calls}
 use Rattle.font_types.proofs.{ArrayNumbers.array_number_calls, Below.below_calls, Writes.write_calls}
 use Rattle.font_types.proofs.Ties.{tie_calls}
 use Rattle.font_types.proofs.Fields.{field_calls, record_calls, other_record_calls, header_calls}
-use Rattle.font_types.proofs.Fields.{rest_calls, beyond_calls}
+use Rattle.font_types.proofs.Fields.{rest_calls, beyond_calls, second_calls}
 pub use Rattle.font_base.proofs.ScalarCalls.{absent, nowhere, rises_by}
 pub use Rattle.font_base.proofs.Moved.{bytes_moved}
 pub use Rattle.font_base.specs.Wrap.Laws.{wrap_is, wrap_unique, wrap-fits}
@@ -161,4 +161,28 @@ pub ruleset numbers = (
   ties,
   shifts,
   ints,
+)
+
+-- for a file of bytes, in place of `calls`: what `calls` has of scalars, records, arrays, searches, tags and versions,
+-- the rulesets of bytes above, second fields, and sums of 16-bit numbers
+pub ruleset tables = (
+  scalar_calls,
+  search_calls,
+  stored_calls,
+  array_number_calls,
+  tag_calls,
+  compatible_calls,
+  records_1_3_8,
+  headers,
+  writes,
+  firsts_24,
+  rests,
+  behind_1,
+  behind_2,
+  behind_3,
+  behind_4,
+  behind_8,
+  follows,
+  second_calls,
+  magnitude_calls,
 )

@@ -65,12 +65,14 @@ uint24_field n = uint24_laws.back n refl
 pub int24_field : (n : Int24) → int24_of (signed_numeral 3 (bytes_of 3 (int24_number n))) ≡ n
 int24_field n = int24_laws.back n refl
 
--- the second field, of n bytes, of a record that is stored at an offset, behind a first field of k bytes
+-- the second field, of n bytes, of a record that is stored at an offset, behind a first field of k bytes; what the goal
+-- has of it stands first, so that `grind` uses this only for a field of the goal
 abbrev IsSecond : ℕ → ℕ → Type 0
-IsSecond k n = (at : ℕ) (bytes : List ℕ) → drop k (take (k + n) (drop at bytes)) ≡ take n (drop (at + k) bytes)
+IsSecond k n = (at : ℕ) (bytes : List ℕ) → (take n (drop (at + k) bytes) ≡ take n (drop (at + k) bytes))
+    × (drop k (take (k + n) (drop at bytes)) ≡ take n (drop (at + k) bytes))
 
 second : (k n : ℕ) → IsSecond k n
-second k n at bytes = drop-take k n (drop at bytes) ∙ ap (take n) (drop-drop k at bytes)
+second k n at bytes = (refl, drop-take k n (drop at bytes) ∙ ap (take n) (drop-drop k at bytes))
 
 -- what is stored behind a field of k bytes, such as a count
 abbrev IsBehind : ℕ → Type 0
@@ -90,8 +92,13 @@ rest k m bytes = ap (drop m) (take_rest bytes k) ∙ drop-drop m k bytes
 abbrev IsFurther : ℕ → Type 0
 IsFurther m = (k : ℕ) (bytes : List ℕ) → drop m (slice_range bytes k (length bytes)) ≡ drop (k + m) bytes
 
+-- here too, what the goal has of it stands first
 abbrev IsBeyond : ℕ → Type 0
-IsBeyond m = (k : ℕ) (bytes : List ℕ) → drop m (drop k bytes) ≡ drop (k + m) bytes
+IsBeyond m = (k : ℕ) (bytes : List ℕ) → (drop (k + m) bytes ≡ drop (k + m) bytes)
+    × (drop m (drop k bytes) ≡ drop (k + m) bytes)
+
+beyond : (m : ℕ) → IsBeyond m
+beyond m k bytes = (refl, behind k m bytes)
 
 -- their instances
 
@@ -297,34 +304,34 @@ pub further_16 : IsFurther 16
 further_16 k bytes = rest k 16 bytes
 
 pub beyond_1 : IsBeyond 1
-beyond_1 k bytes = behind k 1 bytes
+beyond_1 = beyond 1
 
 pub beyond_2 : IsBeyond 2
-beyond_2 k bytes = behind k 2 bytes
+beyond_2 = beyond 2
 
 pub beyond_3 : IsBeyond 3
-beyond_3 k bytes = behind k 3 bytes
+beyond_3 = beyond 3
 
 pub beyond_4 : IsBeyond 4
-beyond_4 k bytes = behind k 4 bytes
+beyond_4 = beyond 4
 
 pub beyond_6 : IsBeyond 6
-beyond_6 k bytes = behind k 6 bytes
+beyond_6 = beyond 6
 
 pub beyond_8 : IsBeyond 8
-beyond_8 k bytes = behind k 8 bytes
+beyond_8 = beyond 8
 
 pub beyond_10 : IsBeyond 10
-beyond_10 k bytes = behind k 10 bytes
+beyond_10 = beyond 10
 
 pub beyond_12 : IsBeyond 12
-beyond_12 k bytes = behind k 12 bytes
+beyond_12 = beyond 12
 
 pub beyond_14 : IsBeyond 14
-beyond_14 k bytes = behind k 14 bytes
+beyond_14 = beyond 14
 
 pub beyond_16 : IsBeyond 16
-beyond_16 k bytes = behind k 16 bytes
+beyond_16 = beyond 16
 
 -- ---- a header of four fields of 4 bytes
 
@@ -441,4 +448,33 @@ pub ruleset beyond_calls = (
   beyond_12,
   beyond_14,
   beyond_16,
+)
+
+-- second fields
+pub ruleset second_calls = (
+  second_1_1,
+  second_1_2,
+  second_1_3,
+  second_1_4,
+  second_1_8,
+  second_2_1,
+  second_2_2,
+  second_2_3,
+  second_2_4,
+  second_2_8,
+  second_3_1,
+  second_3_2,
+  second_3_3,
+  second_3_4,
+  second_3_8,
+  second_4_1,
+  second_4_2,
+  second_4_3,
+  second_4_4,
+  second_4_8,
+  second_8_1,
+  second_8_2,
+  second_8_3,
+  second_8_4,
+  second_8_8,
 )
