@@ -34,7 +34,7 @@ pub use Rattle.font_fixed.proofs.{Small.product_near, Quotients.mul_div_is}
 pub use Rattle.font_fixed.proofs.Orders
 pub use Rattle.font_fixed.proofs.Group
 pub use Rattle.font_fixed.proofs.NumberLaws as Laws
-pub use Rattle.font_tags.proofs.TagLaws.{validated_good, good_is_utf8}
+pub use Rattle.font_tags.proofs.TagLaws.{validated_good, good_is_utf8, good_prints_itself}
 pub use Rattle.font_tags.proofs.TagLaws
 pub use Rattle.font_geom.proofs.FixedCalls.{product_value, image_value}
 pub use Rattle.font_geom.proofs.Bounds.{fits_composed, fits_in_turn, fits_product, product_bounded}
@@ -89,6 +89,7 @@ pub ruleset calls = (
   between_calls,
   -- tags, versions and the text of a number
   tag_calls,
+  good_prints_itself,
   compatible_calls,
   shortest_is,
 )
@@ -171,6 +172,7 @@ pub ruleset tables = (
   stored_calls,
   array_number_calls,
   tag_calls,
+  good_prints_itself,
   compatible_calls,
   records_1_3_8,
   headers,
