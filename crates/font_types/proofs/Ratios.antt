@@ -1,12 +1,12 @@
 -- Quotients of differences, and values on a line through two points: `(x - p) / (q - p)` and
 -- `a + (b - a).mul_div(x - p, q - p)`, as one formula each, and their bounds.
-use Rattle.std.proofs.Common.{◌≡◌, ◌≢◌, ◌∙◌, ap, arith, ℤ, pos, ◌+ℤ◌, ◌-ℤ◌, ◌*ℤ◌, ◌≤ℤ◌, ◌<ℤ◌, unsigned_abs}
+use Rattle.std.proofs.Common.{◌≡◌, ◌≢◌, ◌∙◌, ap, arith, ℤ, pos, ◌+ℤ◌, ◌-ℤ◌, ◌*ℤ◌, ◌≤ℤ◌, ◌<ℤ◌, unsigned_abs, negsuc, refl}
 use Rattle.std.proofs.Common.{w16, w32, SFits}
 use Rattle.std.proofs.{lemmas.Int.ints, Math.IntN.*ℤ_comm, lemmas.Bool.Decides.nat_tests}
 use Rattle.font_base.specs.Wrap.{wrap, FitsBits}
 use Rattle.font_decimal.specs.Near.{near}
 use Rattle.font_fixed.proofs.{Calls.fits_32, FixedCalls.part_is_not_negative, FixedCalls.part_is_at_most_one}
-use Rattle.font_fixed.specs.Operations.{IsMulDiv, IsQuotient}
+use Rattle.font_fixed.specs.Operations.{IsMulDiv, IsQuotient, rounded_mul_div}
 use Rattle.font_types.proofs.Parts.{quotient_of_widened, fits_given, rising_share, falling_share}
 
 -- ---- of differences that were widened from 2.14
@@ -114,6 +114,50 @@ module _ (p x q r : ℤ) (fits_p : SFits w16 p) (fits_q : SFits w16 q) (from : p
     pub falling_wide_ratio_is_at_most_one : r ≤ℤ pos 65536
     falling_wide_ratio_is_at_most_one = falling_ratio_is_at_most_one _ _ _ r wide_fits wide_from wide_to wide_some given
 
+-- ---- the same quotients by `rounded_mul_div`, as the contract of `checked_div` states them
+
+as_mul_div : (x a y : ℤ) → pos 0 <ℤ y → near (x *ℤ a) (unsigned_abs y) ≡ rounded_mul_div x a y
+as_mul_div x a (pos n) some = refl
+as_mul_div x a (negsuc n) some = absurd (omega (arith, ints, some))
+
+module _ (p x q r : ℤ) (fits : FitsBits 32 (q -ℤ p)) (from : p ≤ℤ x) (to : x ≤ℤ q) (some : p <ℤ q) where
+  some_whole : pos 0 <ℤ (q -ℤ p)
+  some_whole = omega (arith, ints, some)
+
+  pub rising_quotient_is : IsQuotient 32 16 (wrap 32 (x -ℤ p)) (wrap 32 (q -ℤ p)) r
+      → r ≡ rounded_mul_div (x -ℤ p) (pos 65536) (q -ℤ p)
+  rising_quotient_is given =
+      rising_ratio_is p x q r fits from to some given ∙ as_mul_div (x -ℤ p) (pos 65536) (q -ℤ p) some_whole
+
+  pub falling_quotient_is : IsQuotient 32 16 (wrap 32 (q -ℤ x)) (wrap 32 (q -ℤ p)) r
+      → r ≡ rounded_mul_div (q -ℤ x) (pos 65536) (q -ℤ p)
+  falling_quotient_is given =
+      falling_ratio_is p x q r fits from to some given ∙ as_mul_div (q -ℤ x) (pos 65536) (q -ℤ p) some_whole
+
+-- and of numbers that were widened from 2.14
+narrow_difference_fits : (a b : ℤ) → SFits w16 a → SFits w16 b → FitsBits 32 (a -ℤ b)
+narrow_difference_fits a b fits_a fits_b =
+    record { low = omega (arith, ints, fits_a, fits_b); high = omega (arith, ints, fits_a, fits_b) }
+
+module _ (p x q r : ℤ) (fits_p : SFits w16 p) (fits_x : SFits w16 x) (fits_q : SFits w16 q) (from : p ≤ℤ x)
+    (to : x ≤ℤ q) (some : p <ℤ q) where
+  whole_difference : wrap 32 (q -ℤ p) ≡ (q -ℤ p)
+  whole_difference = fits_given (q -ℤ p) (narrow_difference_fits q p fits_q fits_p)
+
+  pub rising_wide_quotient_is : IsQuotient 32 16 (wrap 32 ((x *ℤ pos 4) -ℤ (p *ℤ pos 4)))
+      (wrap 32 ((q *ℤ pos 4) -ℤ (p *ℤ pos 4))) r → r ≡ rounded_mul_div (x -ℤ p) (pos 65536) (q -ℤ p)
+  rising_wide_quotient_is given =
+      let part = fits_given (x -ℤ p) (narrow_difference_fits x p fits_x fits_p) in
+      rising_quotient_is p x q r (narrow_difference_fits q p fits_q fits_p) from to some
+      (rw (part, whole_difference) (quotient_of_widened_differences x p q p r given fits_x fits_p fits_q fits_p some))
+
+  pub falling_wide_quotient_is : IsQuotient 32 16 (wrap 32 ((q *ℤ pos 4) -ℤ (x *ℤ pos 4)))
+      (wrap 32 ((q *ℤ pos 4) -ℤ (p *ℤ pos 4))) r → r ≡ rounded_mul_div (q -ℤ x) (pos 65536) (q -ℤ p)
+  falling_wide_quotient_is given =
+      let part = fits_given (q -ℤ x) (narrow_difference_fits q x fits_q fits_x) in
+      falling_quotient_is p x q r (narrow_difference_fits q p fits_q fits_p) from to some
+      (rw (part, whole_difference) (quotient_of_widened_differences q x q p r given fits_q fits_x fits_q fits_p some))
+
 -- ---- a value on the line through two points
 
 module _ (a b x p q r : ℤ) (given : IsMulDiv 32 (wrap 32 (b -ℤ a)) (wrap 32 (x -ℤ p)) (wrap 32 (q -ℤ p)) r)
@@ -172,6 +216,10 @@ pub ruleset ratio_calls = (
   rising_wide_ratio_is_at_most_one,
   falling_wide_ratio_is_not_negative,
   falling_wide_ratio_is_at_most_one,
+  rising_quotient_is,
+  falling_quotient_is,
+  rising_wide_quotient_is,
+  falling_wide_quotient_is,
   on_rising_line,
   on_falling_line,
   rising_line_from,
