@@ -52,8 +52,9 @@ pub use Rattle.font_types.proofs.Fields.{second_4_1, second_4_2, second_4_3, sec
 pub use Rattle.font_types.proofs.Fields.{second_8_1, second_8_2, second_8_3, second_8_4, second_8_8, behind_8}
 -- for a field of 8 bytes that is written and read, in place of `calls`
 pub use Rattle.font_types.proofs.Fields.{signed_field_8}
--- for an answer: if a search finds no index, no record has the number, or the key of bytes
-pub use Rattle.font_types.proofs.RecordSearches.{no_record_has, no_record_has_key}
+-- for an answer: if a search finds no index, no record has the number, or the key of bytes; and `partition_point` by a
+-- number parts the records that are less from the others
+pub use Rattle.font_types.proofs.RecordSearches.{no_record_has, no_record_has_key, parted_by_number}
 pub use Rattle.font_types.specs.Json.Laws.{fixed_form, signed_form, unsigned_form, tag_form, version_form_of}
 
 -- the rules by which functions of callers prove

@@ -1,19 +1,29 @@
 -- An array of records that is sorted by a key, which stands in the bytes of each: if a search finds no index, no record
--- has the key.
+-- has the key. The place that `partition_point` finds is between the lesser numbers and the others.
 use Rattle.std.proofs.Common.{◌≡◌, ◌≢◌, ◌∙◌, sym, ap, refl, arith, ℕ, ◌/◌, ◌<◌, ◌≤◌, lit≤, Bool, IsTrue, List, []}
-use Rattle.std.proofs.Common.{length, flat_map, Result, Ok, Err, IfErr, MatchResult, nat_cmp, Ordering, Less, Equal}
+use Rattle.std.proofs.Common.{length, flat_map, Result, Ok, Err, IfErr, MatchResult, nat_cmp, nat_lt, Ordering, Less, Equal}
 use Rattle.std.proofs.Common.{Greater}
-use Rattle.std.proofs.lemmas.Cmp.{nat_list_cmp_total}
+use Rattle.std.proofs.lemmas.{Cmp.nat_list_cmp_total, Bool.Decides.nat_tests}
 use Rattle.std.specs.{Cmp.nat_cmp_is, Cmp.IsTotalOrder, Cmp.Lexicographic.slice_cmp}
 use Rattle.std.specs.Ordering.{ordering_index, ordering_reverse}
 use Rattle.font_base.specs.{Bytes.are_bytes, Scalar.ScalarLaws}
-use Rattle.font_base.specs.Elements.{element, AreRaw, IsStored, StoresOne, Rises, Splits}
+use Rattle.font_base.specs.Elements.{element, AreRaw, IsStored, StoresOne, Rises, Splits, side}
 use Rattle.font_base.proofs.Elements.{counted, element_at, value_at}
 use Rattle.font_base.proofs.ScalarCalls.{nowhere, rises_by}
 
 if_err : {P Q : ℕ → Type 0} (result : Result ℕ ℕ) → ((i : ℕ) → P i → Q i) → IfErr result P → IfErr result Q
 if_err (Ok i) gives found = tt
 if_err (Err i) gives found = gives i found
+
+-- a test that compares a number with a key
+side_rises : (a b key : ℕ) → a ≤ b → ordering_index (side (nat_lt a key)) ≤ ordering_index (side (nat_lt b key))
+side_rises a b key order = grind (arith, nat_tests)
+
+side_less : (a key : ℕ) → side (nat_lt a key) ≡ Less → a < key
+side_less a key is = grind (arith, nat_tests)
+
+side_greater : (a key : ℕ) → side (nat_lt a key) ≡ Greater → key ≤ a
+side_greater a key is = grind (arith, nat_tests)
 
 -- a key that is less has a lower answer
 rank_rises : {K : Type 0} {R : K → K → Ordering} (a b key : K) → IsTotalOrder R → R a b ≡ Less
@@ -81,6 +91,32 @@ module _ {V : Type 0} {is_scalar : V → Bool} {of_raw : List ℕ → V} {raw_of
         (sym (nat_cmp_is (number_of (of_raw (at k))) key Equal
         (has_number k (of_raw (at k)) (stored_at k within) ∙ is))))
         (none_equal (λ v. nat_cmp (number_of v) key) result rises searched)
+
+  -- by a number, of `partition_point`
+  module _ (number_of : V → ℕ) (number : List ℕ → ℕ) (key place : ℕ)
+      (same : (v : V) → IsTrue (is_scalar v) → number_of v ≡ number (raw_of v)) where
+    stored_number : (k : ℕ) (v : V) → IsStored is_scalar raw_of (at k) v → number_of v ≡ number (at k)
+    stored_number k v is = same v is.is_value ∙ ap number is.bytes_are
+
+    pub parted_by_number : ((i j : ℕ) → i ≤ j → j < many → number (at i) ≤ number (at j))
+        → (place ≤ many) × (Rises is_scalar raw_of (λ v. side (nat_lt (number_of v) key)) at many
+        → Splits is_scalar raw_of (λ v. side (nat_lt (number_of v) key)) at many place place)
+        → ((k : ℕ) → k < place → number (at k) < key) × ((k : ℕ) → place ≤ k → k < many → key ≤ number (at k))
+    parted_by_number sorted parted =
+        let splits = parted.1 (record {
+          keeps = λ i j v w from within is_v is_w. side_rises (number_of v) (number_of w) key
+              (omega (arith, sorted i j from within, stored_number i v is_v, stored_number j w is_w));
+        }) in (
+          λ k below.
+              let is = stored_at k (omega (arith, below, parted.0)) in
+              let lesser = side_less (number_of (of_raw (at k))) key (splits.less k (of_raw (at k)) below is) in
+              omega (arith, stored_number k (of_raw (at k)) is, lesser),
+          λ k above within.
+              let is = stored_at k within in
+              let other = side_greater (number_of (of_raw (at k))) key
+              (splits.greater k (of_raw (at k)) above within is) in
+              omega (arith, stored_number k (of_raw (at k)) is, other),
+        )
 
   -- by a key of bytes, such as a tag, each less than the next
   module _ (key_of : V → List ℕ) (key_at : List ℕ → List ℕ) (key : List ℕ) (result : Result ℕ ℕ)
