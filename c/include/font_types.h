@@ -194,10 +194,10 @@ typedef enum fty_status FTY_API_OF_32_BITS {
     FTY_COUNT_MISMATCH = 7,   /**< the number of scalars differs from the number of deltas */
     FTY_TOO_MANY = 8,         /**< more than 65,535 scalars for a delta set */
     /* 9 was the status of delta sets with deltas of 32 bits until 0.4 */
-    FTY_TAG_LENGTH = 10,      /**< not 1 to 4 bytes; from fty_tag_validate: four spaces */
-    FTY_TAG_BYTE = 11,        /**< a byte outside 0x20 to 0x7E, or a leading space; from
+    FTY_BAD_TAG_LENGTH = 10,  /**< not 1 to 4 bytes; from fty_tag_validate: four spaces */
+    FTY_BAD_TAG_BYTE = 11,    /**< a byte outside 0x20 to 0x7E, or a leading space; from
                                    fty_tag_parse also a printable byte after a space */
-    FTY_TAG_AFTER_SPACE = 12  /**< from fty_tag_validate: a printable byte after a space */
+    FTY_BAD_TAG_SPACE = 12    /**< from fty_tag_validate: a printable byte after a space */
 } fty_status;
 
 /**
@@ -1337,14 +1337,14 @@ enum { FTY_TAG_ROOM = 25 };
 
 /**
  * Parses a valid tag of one to four bytes, padding with spaces.
- * Fails by FTY_TAG_LENGTH, FTY_TAG_BYTE.
+ * Fails by FTY_BAD_TAG_LENGTH, FTY_BAD_TAG_BYTE.
  */
 FTY_API_MUST_USE fty_status fty_tag_parse(
     const char *text, size_t length, uint32_t *tag) FTY_API_NOEXCEPT;
 
 /**
- * Checks a tag, and stores nothing if it is valid. Fails by FTY_TAG_LENGTH for four
- * spaces; else by FTY_TAG_BYTE or FTY_TAG_AFTER_SPACE, by what is wrong with the first
+ * Checks a tag, and stores nothing if it is valid. Fails by FTY_BAD_TAG_LENGTH for four
+ * spaces; else by FTY_BAD_TAG_BYTE or FTY_BAD_TAG_SPACE, by what is wrong with the first
  * invalid byte, whose index, 0 to 3, is stored. (OTS's CheckTag also takes a space anywhere.)
  */
 FTY_API_MUST_USE fty_status fty_tag_validate(uint32_t tag, size_t *index) FTY_API_NOEXCEPT;
@@ -1378,9 +1378,9 @@ FTY_API_INLINE const char *fty_status_text(fty_status status) FTY_API_NOEXCEPT {
     case FTY_OUT_OF_BOUNDS: return "field out of bounds";
     case FTY_COUNT_MISMATCH: return "different numbers of scalars and deltas";
     case FTY_TOO_MANY: return "too many scalars";
-    case FTY_TAG_LENGTH: return "wrong length of a tag";
-    case FTY_TAG_BYTE: return "invalid byte in a tag";
-    case FTY_TAG_AFTER_SPACE: return "printable byte after a space in a tag";
+    case FTY_BAD_TAG_LENGTH: return "wrong length of a tag";
+    case FTY_BAD_TAG_BYTE: return "invalid byte in a tag";
+    case FTY_BAD_TAG_SPACE: return "printable byte after a space in a tag";
     }
     return "unknown status";
 }

@@ -391,14 +391,14 @@ RESULT(validated, size_t, (uint32_t tag), fty_tag_validate(tag, &place))
 
 static void check_tags(void) {
     check_result("new", 0, new_tag("cvt", 3), FTY_OK, 0x63767420);
-    check_result("new", 1, new_tag("GSUB ", 5), FTY_TAG_LENGTH, 0);
-    check_result("new", 2, new_tag("a b ", 4), FTY_TAG_BYTE, 0);
+    check_result("new", 1, new_tag("GSUB ", 5), FTY_BAD_TAG_LENGTH, 0);
+    check_result("new", 2, new_tag("a b ", 4), FTY_BAD_TAG_BYTE, 0);
     check_result("validated", 0, validated(0x63767420), FTY_OK, KEPT);
-    check_result("validated", 1, validated(0x20202020), FTY_TAG_LENGTH, 0);
+    check_result("validated", 1, validated(0x20202020), FTY_BAD_TAG_LENGTH, 0);
     size_t index = KEPT;
-    check("byte", 0, fty_tag_validate(0x6376740A, &index), FTY_TAG_BYTE);
+    check("byte", 0, fty_tag_validate(0x6376740A, &index), FTY_BAD_TAG_BYTE);
     check("byte", 1, (int64_t)index, 3);
-    check("after a space", 0, fty_tag_validate(0x41202042, &index), FTY_TAG_AFTER_SPACE);
+    check("after a space", 0, fty_tag_validate(0x41202042, &index), FTY_BAD_TAG_SPACE);
     check("after a space", 1, (int64_t)index, 3);
     check_short("text", 0, tag_text(0x00FF1F99, 23));
     check_written("text", 0, tag_text(0x00FF1F99, FTY_TAG_ROOM), "{0x00}{0xFF}{0x1F}{0x99}");
@@ -423,7 +423,7 @@ static void check_nulls(void) {
     check("null out", 3, (int64_t)length, KEPT);
     check_result("null deltas", 0, sum_of_deltas(of(NULL, 0), of(NULL, 0)), FTY_OK, 0);
     check_result("null set", 0, sum_of_set(of(NULL, 0), bytes(NULL, 0), 0), FTY_OK, 0);
-    check_result("null tag", 0, new_tag(NULL, 0), FTY_TAG_LENGTH, 0);
+    check_result("null tag", 0, new_tag(NULL, 0), FTY_BAD_TAG_LENGTH, 0);
     fty_matrix_transform_points(&identity, NULL, 0);
 }
 
