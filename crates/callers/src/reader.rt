@@ -302,7 +302,9 @@ pub fn count_in_classes(gdef: &[u8]) -> Option<u16>
     u16::read_at(classes, 4)
 }
 
-/// A record with a 24-bit field: a character of `cmap`, and its glyph in a variation sequence.
+/// A record with a 24-bit field: a character of `cmap`, and its glyph in a variation sequence. In
+/// place of `uint24_laws`, `Int24.Laws` has `int24_laws`, and `Newtypes` has `offset24_laws` and
+/// `glyph24_laws`.
 #[derive(Clone, Copy)]
 pub struct Variant {
     pub character: Uint24,

@@ -1,6 +1,7 @@
 pub mod Json
 pub mod Delta
 pub mod DeltaSum
+pub mod Newtypes
 pub use Rattle.font_base.specs.Wrap
 pub use Rattle.font_base.specs.Bytes
 pub use Rattle.font_base.specs.Scalar
