@@ -40,6 +40,9 @@ pub fn row(numbers: &[Fixed], width: usize, alloc: Global) -> Result<Vec<u8>, Al
 // ---- lines in a buffer
 
 /// Writes a part of a line into a buffer, at an offset: the offset after it.
+///
+/// States a text of several parts, written by `put` one after another: `a ++ b ++ c`, which groups
+/// to the left. State the text that `format!` writes by `a ++ (b ++ c)`.
 pub fn put(out: &mut [u8], at: usize, part: &[u8]) -> usize
     requires { at + length part.now ≤ length out.old }
     ensures offset { result ≡ at + length part.now }
@@ -52,6 +55,8 @@ pub fn put(out: &mut [u8], at: usize, part: &[u8]) -> usize
 }
 
 /// Writes a line, part by part: a tag, `=` and a number; the length.
+///
+/// In a function of its own: the write of a part.
 pub fn labeled(out: &mut [u8; 32], tag: Tag, value: Fixed) -> usize
     ensures bytes { take result out.new ≡ tag_bytes tag ++ codes "=" ++ fixed_text value }
     ensures room { result ≤ 32 }
@@ -62,6 +67,9 @@ pub fn labeled(out: &mut [u8; 32], tag: Tag, value: Fixed) -> usize
 }
 
 /// Reads a line: the number after a label of five bytes, which is the one that was printed there.
+///
+/// A reader of what another function prints has two clauses: `reads` says which value an `Ok` has,
+/// and `printed` when the result is `Ok`.
 pub fn value_of(line: &[u8]) -> Result<Fixed, DecimalFault>
     ensures reads { IfOk result (λ x. ReadsBits 32 16 (drop 5 line.now) (fixed_bits x)) }
     ensures printed { (x : Fixed) → FitsSigned w32 (fixed_bits x)
@@ -74,7 +82,7 @@ pub fn value_of(line: &[u8]) -> Result<Fixed, DecimalFault>
 /// Parses the rest of a line: the number after a label of five bytes, or why it is none.
 ///
 /// The text of `&line[5..]` is stated by a length. The answer in `proofs/dumper/parsed_after` takes
-/// that away.
+/// that away by std's `take_rest`. It is for a clause with a definition of the rest of a slice.
 pub fn parsed_after(line: &[u8]) -> Result<Fixed, DecimalFault>
     requires { 5 ≤ length line.now }
     ensures { ParsesFixedPoint w32 16 fixed_bits (drop 5 line.now) result }

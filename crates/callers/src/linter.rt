@@ -43,6 +43,9 @@ pub fn validate(tags: &[Tag]) -> Result<(), BadTag>
 /// Checks every two neighbors: whether tags are strictly ascending.
 ///
 /// The invariant compares their bytes by `slice_cmp nat_cmp`, which is the order of tags.
+///
+/// Compares tags in the order of the clause: if it has `cmp a b`, write `a >= b`, and not `b <= a`.
+/// A loop that compares tags by `==` proves with `a.eq_bytes(b.as_bytes())`.
 pub fn is_ascending(tags: &[Tag]) -> bool
     ensures { IsTrue result ↔ AllAdjacentBelow
         (λ a b. ⟦<Tag as Ord>⟧.cmp a b ≡ Ordering.Less) tags.now (length tags.now) }

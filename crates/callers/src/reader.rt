@@ -82,6 +82,8 @@ pub fn line_height(hhea: &[u8]) -> Option<i32>
 }
 
 /// Reads a flag: whether a font is bold, by `macStyle` of `head`, or `None` for under 46 bytes.
+///
+/// A clause states a bit of a field by `bit_and`.
 pub fn is_bold(head: &[u8]) -> Option<bool>
     ensures variant { IsSome result ↔ (46 ≤ length head.now) }
     ensures value { IfSome result (λ bold. IsTrue bold
@@ -140,6 +142,8 @@ impl Scalar for GlyphOrigin {
 }
 
 /// Searches records by a key: the index of a glyph's among records in order, or its place.
+///
+/// If a clause of a caller says where a record would be, it follows from `IsSearched` here.
 pub fn origin_index(
     origins: &ScalarArray<'_, GlyphOrigin>,
     glyph: GlyphId16,
@@ -152,7 +156,7 @@ pub fn origin_index(
 
 /// Reads the record that a search found: the vertical origin of a glyph, if it has a record.
 ///
-/// The search is a function of its own, so that `IsSearched` names the key of a record.
+/// In a function of its own: the search, so that `IsSearched` names the key of a record.
 pub fn origin_of(origins: ScalarArray<'_, GlyphOrigin>, glyph: GlyphId16) -> Option<FWord>
     ensures { IfSome result (λ origin. (i : ℕ) × (i < array_len origins.entry)
         × (element_bytes origins.entry i
@@ -164,8 +168,9 @@ pub fn origin_of(origins: ScalarArray<'_, GlyphOrigin>, glyph: GlyphId16) -> Opt
 
 /// Searches records and reads the one found: the vertical origin of a glyph, or `None`.
 ///
-/// The answer names the key. If the records are sorted by their glyphs, `None` says that none of
-/// them is of the glyph.
+/// The answers name the comparison of the search. If the records are sorted by their glyphs, `None`
+/// says that none of them is of the glyph, by the lemma `no_record_has`. The lemma
+/// `no_record_has_key` is for a key of bytes, such as a tag.
 pub fn origin_or_none(origins: ScalarArray<'_, GlyphOrigin>, glyph: GlyphId16) -> Option<FWord>
     ensures found { IfSome result (λ origin. (i : ℕ) × (i < array_len origins.entry)
         × (element_bytes origins.entry i
@@ -268,6 +273,10 @@ pub fn counted_numbers(list: &[u8]) -> Option<ScalarArray<'_, u32>>
 }
 
 /// Takes an array after its count, from the rest of a slice: the glyphs of a coverage, in format 1.
+///
+/// `tables` has lemmas for a rest that begins at 1, 3, or an even number up to 16. A field
+/// at `index * 6` in a rest needs no lemma. After `get`, write `?`, `match` or `if`, and not
+/// `unwrap_or`.
 pub fn covered_glyphs(coverage: &[u8]) -> Option<ScalarArray<'_, GlyphId16>>
     ensures variant { IsSome result ↔ ((4 ≤ length coverage.now)
         × (4 + numeral (take 2 (drop 2 coverage.now)) * 2 ≤ length coverage.now)) }
@@ -359,7 +368,8 @@ pub fn written_variant(cmap: &mut [u8], at: usize, variant: Variant) -> Option<V
     Variant::read_at(cmap, at)
 }
 
-/// Reads the number of a first field of 24 bits: a character of `cmap`.
+/// Reads the number of a first field of 24 bits: a character of `cmap`, by `firsts_24` and then
+/// `calls`. `tables` has `firsts_24` behind others.
 #[tactic(auto, using(font_types::proofs::Callers::firsts_24, font_types::proofs::Callers::calls))]
 pub fn character_at(cmap: &[u8], at: usize) -> Option<Uint24>
     ensures variant { IsSome result ↔ (at + 5 ≤ length cmap.now) }
@@ -395,6 +405,9 @@ fn put_advance(hmtx: &mut [u8], at: usize, advance: UfWord) -> usize
 }
 
 /// Writes the elements of a slice, one after another: advance widths, or `None` without room.
+///
+/// In a function of its own: the write of an element, which says what stays after it. Test the
+/// length, and then write by `xs[i] = x` or `xs[a..b]`, and not by `get_mut`.
 pub fn put_advances(hmtx: &mut [u8], advances: &[UfWord]) -> Option<usize>
     ensures variant { IsSome result ↔ (length advances.now * 2 ≤ length hmtx.old) }
     ensures len { IfSome result (λ n. n ≡ length advances.now * 2) }
@@ -423,6 +436,8 @@ pub struct LineMetrics {
 }
 
 /// Encodes fields: the bytes of each.
+///
+/// If more bytes than these stay open, write each field into a buffer, as `dumper::put` does.
 pub fn encode_metrics(metrics: LineMetrics) -> [u8; 6]
     ensures { result ≡ metrics_bytes metrics }
 {

@@ -65,7 +65,7 @@ pub fn scale_point(scale: Matrix<Fixed>, place: Matrix<Fixed>, point: Point<Fixe
 /// Composes three matrices of bounded entries: the exact sums of the rounded products, bounded too.
 ///
 /// The lemma `bounded_product` has both, once for each `*`, in the answers in
-/// `proofs/scaler/composed_of_three`.
+/// `proofs/scaler/composed_of_three`. The lemma `bounded_image` is for a point.
 pub fn composed_of_three(a: Matrix<Fixed>, b: Matrix<Fixed>, c: Matrix<Fixed>) -> Matrix<Fixed>
     requires a { IsBounded (2 ^ 16) (2 ^ 24) (matrix_bits a) }
     requires b { IsBounded (2 ^ 16) (2 ^ 24) (matrix_bits b) }
@@ -78,6 +78,9 @@ pub fn composed_of_three(a: Matrix<Fixed>, b: Matrix<Fixed>, c: Matrix<Fixed>) -
 }
 
 /// Scales font units to 26.6: the width of a stem, rounded once, half up.
+///
+/// The contract of `FWord::to_fixed` does not ask whether the number fits, and that of
+/// `Fixed::from_i32` does. So write `FWord::new(n).to_fixed()` for an `i16` of font units.
 pub fn scaled_width(width: FWord, scale: Fixed) -> F26Dot6
     requires { (pos 0 ≤ℤ fixed_bits scale) × (fixed_bits scale ≤ℤ fixed_bits Fixed.ONE) }
     ensures { f26dot6_bits result ≡ up (fword_number width *ℤ fixed_bits scale) 1024 }
@@ -120,7 +123,7 @@ pub fn pixel_span(x_min: i16, x_max: i16, scale: Scale) -> (F26Dot6, F26Dot6)
 
 /// Rounds by a shift: the middle of two coordinates in font units, rounded down.
 ///
-/// The ruleset `shifts` has the bounds of `>>`, besides std's `wraps`.
+/// The ruleset `shifts` has the bounds of `>>`, besides std's `wraps`. `numbers` lacks `wraps`.
 #[tactic(auto, using(std::proofs::lemmas::Int::wraps, font_types::proofs::Callers::shifts))]
 pub fn halfway(a: i16, b: i16) -> i16
     ensures low { (result +ℤ result) ≤ℤ (a +ℤ b) }
@@ -138,6 +141,9 @@ pub fn average(a: F2Dot14, b: F2Dot14) -> F2Dot14
 }
 
 /// Divides two differences: the scalar of a region, from the start of its axis to the peak.
+///
+/// The clauses prove by the three orders as they stand in `requires`, and not by `start < at` in
+/// place of the first and the last.
 pub fn rising(start: F2Dot14, peak: F2Dot14, at: F2Dot14) -> Fixed
     requires { (f2dot14_bits start ≤ℤ f2dot14_bits at) × (f2dot14_bits at ≤ℤ f2dot14_bits peak)
         × (f2dot14_bits start <ℤ f2dot14_bits peak) }
@@ -160,7 +166,7 @@ pub fn blend(from: Fixed, to: Fixed, t: Fixed) -> Fixed
 
 /// Interpolates: the delta of a point between two points that have deltas.
 ///
-/// The value has a clause for each order of the two deltas.
+/// State what a function interpolates by a clause for each order of its ends, as here.
 pub fn interpolated(a: Fixed, b: Fixed, at: Fixed, from: Fixed, to: Fixed) -> Fixed
     requires between { (fixed_bits a ≤ℤ fixed_bits at) × (fixed_bits at ≤ℤ fixed_bits b)
         × (fixed_bits a <ℤ fixed_bits b) }
@@ -216,7 +222,7 @@ fn in_zone(y: F26Dot6, low: F26Dot6, high: F26Dot6) -> F26Dot6
 
 /// Clamps and rounds: a coordinate to a zone, and then to the grid, half up.
 ///
-/// The clamp is a function of its own, so that a search meets one call at a time.
+/// In a function of its own: the clamp, so that a search meets one call at a time.
 pub fn hinted(y: F26Dot6, low: F26Dot6, high: F26Dot6) -> F26Dot6
     requires zone { f26dot6_bits low ≤ℤ f26dot6_bits high }
     requires fits { FitsBits 32 (f26dot6_bits high +ℤ pos 32) }
@@ -259,7 +265,8 @@ pub fn whole_distance(distance: F26Dot6) -> Option<F26Dot6>
 
 /// Adds the numbers of two slices: advances, each with the kerning after it; wrapped once.
 ///
-/// The loop goes by index, and the sum is stated by `total_below`, a sum over an index.
+/// The loop goes by index, and the sum is stated by `total_below`, a sum over an index. `requires`
+/// says that the lengths are equal.
 pub fn kerned_width(advances: &[Fixed], kerning: &[Fixed]) -> Fixed
     requires { length advances.now ≡ length kerning.now }
     ensures { fixed_bits result
@@ -274,7 +281,8 @@ pub fn kerned_width(advances: &[Fixed], kerning: &[Fixed]) -> Fixed
 
 /// Adds the numbers of two slices by `zip`: the same width.
 ///
-/// The loop has no index. In its invariant, `length l.yielded` stands for one.
+/// The loop has no index. In its invariant, `length l.yielded` stands for one. If a loop by `zip`
+/// stays open, go by index.
 #[tactic(auto, using(font_types::proofs::Callers::calls, font_types::proofs::Callers::lerps))]
 pub fn kerned_width_by_zip(advances: &[Fixed], kerning: &[Fixed]) -> Fixed
     requires { length advances.now ≡ length kerning.now }
@@ -308,7 +316,8 @@ pub fn scaled_advances(narrow: UfWord, wide: UfWord, scale: Scale) -> (F26Dot6, 
 
 /// Rounds two numbers to integers, in order: widths in whole pixels, or `None` if one overflows.
 ///
-/// The order of the two steps, scaled and rounded, is that of each, in a function of its own.
+/// In a function of its own: each of two steps, such as scaling and rounding, if the order of the
+/// numbers after both stays open.
 pub fn whole_widths(low: F26Dot6, high: F26Dot6) -> Option<(i32, i32)>
     ensures variant { IsSome result
         ↔ (FitsBits 26 (up (f26dot6_bits low) 64) × FitsBits 26 (up (f26dot6_bits high) 64)) }

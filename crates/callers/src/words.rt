@@ -21,6 +21,9 @@ pub struct Range {
 }
 
 /// Writes several numbers into a buffer: three, with single spaces; the length.
+///
+/// The buffer has 22 bytes for each number, because the contract of `as_str` says that a decimal
+/// has at most 22.
 pub fn put_range(out: &mut [u8; 68], range: Range) -> usize
     ensures bytes { take result out.new ≡ fixed_text range.min ++ codes " "
         ++ fixed_text range.default ++ codes " " ++ fixed_text range.max }
@@ -78,7 +81,8 @@ fn parsed_word(word: &[u8]) -> Option<Fixed>
 
 /// Parses several numbers with single spaces: three, or `None` if a text is not that.
 ///
-/// `parts` says what is read, and `printed` that each printed line is.
+/// In functions of their own: the split at a space, and the parsing of a word. Copy this file and
+/// `proofs/Spaces.antt`. `parts` says what is read, and `printed` that each printed line is.
 pub fn parsed_range(text: &[u8]) -> Option<Range>
     ensures parts { IfSome result (λ range. AreNumbersOf text.now range) }
     ensures printed { (range : Range) → FitsSigned w32 (fixed_bits range.min)

@@ -1,5 +1,6 @@
 -- Lemmas of this crate and those below for its callers: the ruleset `calls`, which a crate names once at its head,
--- `numbers` and `tables`, which a file of numbers or of bytes names at its head, and lemmas for answers.
+-- `numbers` and `tables`, which a file of numbers or of bytes names at its head, and lemmas for answers. The modules,
+-- such as `Orders`, are for answers too: `using` takes no lemma of them.
 use Rattle.std.proofs.lemmas.Int.{ints}
 use Rattle.font_base.proofs.ScalarCalls.{scalar_calls}
 use Rattle.font_fixed.proofs.{Calls.calls_16, Calls.calls_32, Calls.calls_64, Shifts.shr_low, Shifts.shr_high}
@@ -137,6 +138,7 @@ pub ruleset headers = (header_calls)
 
 -- for a file of numbers, in place of `calls`: what `calls` has of numbers, and the rulesets of numbers above. By std's
 -- `ints`, `grind` reads the order of integers; without it, `grind` splits each integer by its sign, and soon gives up.
+-- But a loop that adds to a `DeltaSum` by index may prove only with `calls`.
 pub ruleset numbers = (
   fixed_calls,
   calls_16,
@@ -166,7 +168,8 @@ pub ruleset numbers = (
 )
 
 -- for a file of bytes, in place of `calls`: what `calls` has of scalars, records, arrays, searches, tags and versions,
--- the rulesets of bytes above, second fields, and sums of 16-bit numbers
+-- the rulesets of bytes above, second fields, and sums of 16-bit numbers. Fields have 1, 2, 3, 4 or 8 bytes, and rests
+-- begin at 1, 3, or an even number up to 16.
 pub ruleset tables = (
   scalar_calls,
   search_calls,
