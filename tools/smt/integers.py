@@ -36,6 +36,12 @@ def subterms(terms: Iterable[Any]) -> Iterator[Any]:
             yield it
 
 
+def is_remainder(term: Any, of: Any) -> bool:
+    """Returns whether a term is the remainder of another by a constant."""
+    is_known = term.decl().kind() in (z3.Z3_OP_BUREM, z3.Z3_OP_BUREM_I)
+    return is_known and bool(z3.is_bv_value(term.arg(1))) and bool(term.arg(0).eq(of))
+
+
 class Integers:
     """`bounds` are of names and functions whose values are known to be in them. A sum or a product
     is any integer that is equal to it modulo 2^w, until its value is needed."""
@@ -88,6 +94,11 @@ class Integers:
             some = [self.number(it) == 1 for it in children]
             of = {z3.Z3_OP_BOR: z3.Or, z3.Z3_OP_BAND: z3.And}.get(kind, lambda it: z3.Xor(*it))
             return z3.If(of(some), z3.IntVal(1), z3.IntVal(0)), every
+        if kind == z3.Z3_OP_BSUB and is_remainder(children[1], children[0]):
+            # As d (x / d), of which more is known than of the difference x - x % d.
+            (n, (low, high)), by = self.value(children[0]), children[1].arg(1).as_long()
+            if by:
+                return self.parts(n, (low, high), by)[0] * by, (0, high)
         if kind in LINEAR:
             return self.linear(kind, width, [self.equal(it) for it in children])
         if kind == z3.Z3_OP_EXTRACT and not term.params()[1]:
