@@ -122,9 +122,6 @@ pub fn pixel_span(x_min: i16, x_max: i16, scale: Scale) -> (F26Dot6, F26Dot6)
 }
 
 /// Rounds by a shift: the middle of two coordinates in font units, rounded down.
-///
-/// The ruleset `shifts` has the bounds of `>>`, besides std's `wraps`. `numbers` lacks `wraps`.
-#[tactic(auto, using(std::proofs::lemmas::Int::wraps, font_types::proofs::Callers::shifts))]
 pub fn halfway(a: i16, b: i16) -> i16
     ensures low { (result +ℤ result) ≤ℤ (a +ℤ b) }
     ensures high { (a +ℤ b) <ℤ ((result +ℤ result) +ℤ pos 2) }
@@ -251,6 +248,9 @@ fn half_down(y: F26Dot6) -> F26Dot6
 }
 
 /// Rounds half away from zero: a distance on the grid, or `None` on overflow.
+///
+/// The ruleset `ties` has `near` for each sign: half up, and half down.
+#[tactic(auto, using(font_types::proofs::Callers::ties))]
 pub fn whole_distance(distance: F26Dot6) -> Option<F26Dot6>
     ensures variant { IsSome result ↔ FitsBits 32 (near (f26dot6_bits distance) 64 *ℤ pos 64) }
     ensures value { IfSome result (λ whole.

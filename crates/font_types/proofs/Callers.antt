@@ -1,7 +1,6 @@
 -- Lemmas of this crate and those below for its callers: the ruleset `calls`, which a crate names once at its head,
 -- `numbers` and `tables`, which a file of numbers or of bytes names at its head, and lemmas for answers. The modules,
 -- such as `Orders`, are for answers too: `using` takes no lemma of them.
-use Rattle.std.proofs.lemmas.Int.{ints}
 use Rattle.font_base.proofs.ScalarCalls.{scalar_calls}
 use Rattle.font_fixed.proofs.{Calls.calls_16, Calls.calls_32, Calls.calls_64, Shifts.shr_low, Shifts.shr_high}
 use Rattle.font_fixed.proofs.Shifts.{average_fits_16, average_is}
@@ -19,7 +18,7 @@ use Rattle.font_types.proofs.StoredBytes.{first_24_calls}
 use Rattle.font_types.proofs.{ArrayNumbers.array_number_calls, Below.below_calls, Writes.write_calls}
 use Rattle.font_types.proofs.Ties.{tie_calls}
 use Rattle.font_types.proofs.Fields.{field_calls, record_calls, other_record_calls, header_calls}
-use Rattle.font_types.proofs.Fields.{rest_calls, beyond_calls, second_calls}
+use Rattle.font_types.proofs.Fields.{rest_calls, beyond_calls, second_calls, four_fields, four_parts}
 pub use Rattle.font_base.proofs.ScalarCalls.{absent, nowhere, rises_by}
 pub use Rattle.font_base.proofs.Moved.{bytes_moved}
 pub use Rattle.font_base.specs.Wrap.Laws.{wrap_is, wrap_unique, wrap-fits}
@@ -136,9 +135,9 @@ pub ruleset records_1_3_8 = (other_record_calls)
 -- for a header of four fields of 4 bytes that is encoded, or encoded and decoded, in place of `calls`
 pub ruleset headers = (header_calls)
 
--- for a file of numbers, in place of `calls`: what `calls` has of numbers, and the rulesets of numbers above. By std's
--- `ints`, `grind` reads the order of integers; without it, `grind` splits each integer by its sign, and soon gives up.
--- But a loop that adds to a `DeltaSum` by index may prove only with `calls`.
+-- for a file of numbers, in place of `calls`: what `calls` has of numbers, and the rulesets of numbers above. A lemma
+-- that is named twice counts twice against the limits of a search. So neither this nor `tables` names one twice, nor
+-- std's `ints`, which the check names itself in a function whose code computes with signed integers.
 pub ruleset numbers = (
   fixed_calls,
   calls_16,
@@ -164,7 +163,6 @@ pub ruleset numbers = (
   orders,
   ties,
   shifts,
-  ints,
 )
 
 -- for a file of bytes, in place of `calls`: what `calls` has of scalars, records, arrays, searches, tags and versions,
@@ -179,7 +177,8 @@ pub ruleset tables = (
   good_prints_itself,
   compatible_calls,
   records_1_3_8,
-  headers,
+  four_fields,
+  four_parts,
   writes,
   firsts_24,
   rests,
