@@ -63,7 +63,7 @@ workspaces:
 	tests/workspaces
 
 tools:
-	$(call with,cargo cc git python3 rustfmt)
+	$(call with,cargo cc git python3 rustdoc rustfmt)
 	$(cloned)
 	$(if $(PYTHON),,echo "left out: a part of tools, which needs python3-z3")
 	$(log)

@@ -1,5 +1,4 @@
-//! Each type has these traits, no fewer and no more, and those of threads. `api.txt` has names and
-//! signatures.
+//! Each type has these traits, no fewer and no more.
 
 use core::error::Error;
 use core::fmt::{Debug, Display};
@@ -26,15 +25,8 @@ macro_rules! traits_of {
     }};
 }
 
-/// Compiles if a type can be sent, shared and moved, also past a panic.
-fn in_any_thread<T: Send + Sync + Unpin + UnwindSafe + RefUnwindSafe>() {}
-
-/// Asks the same of a type without a name.
-fn is_in_any_thread<T: Send + Sync + Unpin + UnwindSafe + RefUnwindSafe>(_: T) {}
-
 macro_rules! assert_traits {
     ($([$($of:ty),*] $traits:literal;)*) => {$($(
-        in_any_thread::<$of>();
         let found = traits_of!($of: "Copy" Copy, "Debug" Debug, "Default" Default,
             "Display" Display, "Eq" Eq, "Ord" Ord, "Hash" Hash, "FromStr" FromStr, "Error" Error,
             "FixedSize" FixedSize, "Scalar" Scalar, "IdentityEq" IdentityEq,
@@ -86,8 +78,13 @@ fn traits() {
             "Copy Debug Default Display Eq Ord Hash FromStr FixedSize Scalar IdentityEq \
              Add Neg Mul Div";
     }
-    // It has `+=`, but no `+`.
-    in_any_thread::<DeltaSum>();
+}
+
+/// Compiles if an iterator without a name can be sent, shared and moved, also past a panic, as types
+/// with names can.
+#[test]
+fn iter_in_any_thread() {
+    fn is_in_any_thread<T: Send + Sync + Unpin + UnwindSafe + RefUnwindSafe>(_: T) {}
     is_in_any_thread(ScalarArray::<Tag>::default().iter());
 }
 
