@@ -37,6 +37,7 @@ def documented(folder: Path, target: Path) -> Any:
 
 # What only `cargo doc` has.
 PAGES = {"guide", "porting", "definitions"}
+ONLY_DOC = re.compile(r'Cfg.*"doc"|cfg.*\bdoc\b')
 # What has lines of its own, or says where an item stands.
 APART = {"id", "items", "impls", "implementations", "variants", "provided_trait_methods"}
 # What a line has without its key.
@@ -64,7 +65,7 @@ class Walk:
         self.names = {id: path for path, id in reversed(reached)}
         for path, id in reached:
             self.item(path, self.index[str(id)], path)
-        for it in self.index.values():
+        for it in self.inside(map(int, self.index)):
             if "impl" in it["inner"]:
                 self.implementation(it["inner"]["impl"])
 
@@ -73,8 +74,9 @@ class Walk:
         return inner
 
     def inside(self, ids: Iterable[int | None]) -> Iterator[Any]:
-        """Yields those of the items that users see."""
-        return (self.index[str(id)] for id in ids if str(id) in self.index)
+        """Yields those of the items that users see, also if they do not document."""
+        items = (self.index[str(id)] for id in ids if str(id) in self.index)
+        return (it for it in items if it["name"] in PAGES or not ONLY_DOC.search(str(it["attrs"])))
 
     def reach(self, id: int, above: str) -> Iterator[tuple[str, int]]:
         """Yields an item, by the path that users write, and what is in it, if it is a module."""

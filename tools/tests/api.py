@@ -222,6 +222,7 @@ class Api(unittest.TestCase):
             (offset, "NULL", "NONE"),
             (array, rest, "rest: (&'a T::Raw, *const T),"),
             (scale, factor, ""),
+            (scale, "    pub const fn new(", "    #[cfg(doc)]\n    pub const fn new("),
             (scalar, law, f"{law}/// ghost more: {{ (a : Self) → a ≡ a }};\n"),
             (scalar, read, read + more),
             (f"{of}/definitions.rs", "/// record Decimal (text", "/// record Decimal (words"),
@@ -231,9 +232,9 @@ class Api(unittest.TestCase):
         lost = (it.removeprefix("added: ") for it in surface.gone(old, wrong))
         names = {(old.kept | wrong.kept)[it][1] for it in lost if "Record" not in it}
         told = "Extend FixedSize FusedIterator IDENTITY MAX_TEXT_LEN NONE NULL OffsetValue Other "
-        told += "Pad RefUnwindSafe Send Sync UnwindSafe as_secs fill lit vary"
+        told += "Pad RefUnwindSafe Send Sync UnwindSafe as_secs fill lit new vary"
         self.assertEqual(sorted(names), told.split())
-        told = "Decimal OffsetValue Scalar from_factor only_word read read_at take_from vary"
+        told = "Decimal OffsetValue Scalar from_factor new only_word read read_at take_from vary"
         self.assertEqual(sorted(surface.changed(old, wrong)), told.split())
         hashed = "impl Hash for crate::Pad { fn hash<H: Hasher>(&self, _: &mut H) {} }"
         default = "impl Default for crate::Align { fn default() -> Self { Self::Left } }"
