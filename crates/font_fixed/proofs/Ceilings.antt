@@ -1,6 +1,6 @@
 -- Ceilings of numbers of w bits with f fraction bits: the floor of a step less one unit more.
-use Rattle.std.proofs.Common.{◌≡◌, ◌∙◌, sym, ap, refl, ℕ, ◌+◌, ◌-◌, ◌*◌, ◌%◌, ◌^◌, ◌≤◌, ℤ, pos, neg_ℤ, ◌+ℤ◌, ◌-ℤ◌, ◌*ℤ◌}
-use Rattle.std.proofs.Common.{◌≤ℤ◌, ◌<ℤ◌, arith, pow_pos, SFits, to_z, of_z}
+use Rattle.std.proofs.Common.{◌≡◌, ◌∙◌, sym, ap, refl, ℕ, ◌+◌, ◌-◌, ◌*◌, ◌%◌, ◌^◌, ◌<◌, ◌≤◌, ℤ, pos, neg_ℤ, ◌+ℤ◌, ◌-ℤ◌}
+use Rattle.std.proofs.Common.{◌*ℤ◌, ◌≤ℤ◌, ◌<ℤ◌, arith, pow_pos, SFits, to_z, of_z}
 use Rattle.std.proofs.lemmas.Int.{ints, by_lt_z, to_z-of_z}
 use Rattle.std.specs.Int.{Width}
 use mir.Val.{bits, hbits}
@@ -75,17 +75,23 @@ ceiling_wraps w m f x s r all few is floor =
       });
     }
 
--- the same by its bounds, if a step less one unit more fits
+-- the ceiling itself, if it fits
+pub ceiling_fits : (w f : ℕ) (x r : ℤ) → 0 < w → IsWrappedCeiling w f x r → FitsBits w (ceiling_of f x)
+    → r ≡ ceiling_of f x
+ceiling_fits w f x r wide given fits =
+    given.wrapped ∙ ap (λ z. wrap w z) given.is_ceiling.is ∙ wrap-fits w (ceiling_of f x) wide fits
+
+-- the same, and its bounds, if a step less one unit more fits
 pub ceiling_kept : (w : Width) (m f : ℕ) (x s r : ℤ) → m ≡ 2 ^ bits w → f + 2 ≤ bits w
     → s ≡ wrap (bits w) (x +ℤ to_z w (of_z w (to_z w (1 * 2 ^ f % m) -ℤ pos 1))) → IsFloor f s r
-    → FitsBits (bits w) (x +ℤ pos (2 ^ f - 1)) → (x ≤ℤ r) × (r <ℤ (x +ℤ pos (2 ^ f)))
+    → FitsBits (bits w) (x +ℤ pos (2 ^ f - 1)) → (r ≡ ceiling_of f x) × (x ≤ℤ r) × (r <ℤ (x +ℤ pos (2 ^ f)))
 ceiling_kept w m f x s r all few is floor fits =
     let moved = rw (rest_is w m f all few) at is in
     let less : pos (2 ^ f - 1) ≡ (pos (2 ^ f) -ℤ pos 1) = omega (arith, ints, pow_pos f) in
     let kept = rw less at fits in
     let sum = moved ∙ wrap-fits (bits w) (x +ℤ (pos (2 ^ f) -ℤ pos 1)) (bits_positive w) kept in
     let ceiling = floor_is_ceiling f x s r (omega (arith, ints, sum)) floor in
-    (ceiling.low, ceiling.high)
+    (ceiling.is, ceiling.low, ceiling.high)
 
 -- a step less one unit is added, if that fits
 pub ceiling_is : (w : Width) (m f : ℕ) (x s r : ℤ) → m ≡ 2 ^ bits w → f + 2 ≤ bits w

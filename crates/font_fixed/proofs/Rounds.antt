@@ -48,12 +48,6 @@ pub whole_is : (w : Width) (m f : ℕ) (x s r : ℤ) → m ≡ 2 ^ bits w → 6 
     → s ≡ wrap (bits w) (x +ℤ to_z w (1 * 2 ^ (f - 1) % m)) → IsFloor f s r → IsNearestWhole (bits w) f x r
 whole_is w m f x s r all many few is floor = grind (arith, floor_is_nearest_whole, half_is, split_at, bits_positive)
 
--- the same by its bounds, if half a step more fits
-pub nearest_kept : (w : Width) (m f : ℕ) (x s r : ℤ) → m ≡ 2 ^ bits w → 6 ≤ f → f + 2 ≤ bits w
-    → s ≡ wrap (bits w) (x +ℤ to_z w (1 * 2 ^ (f - 1) % m)) → IsFloor f s r → FitsBits (bits w) (x +ℤ pos (2 ^ f / 2))
-    → (r ≤ℤ (x +ℤ pos (2 ^ f / 2))) × ((x +ℤ pos (2 ^ f / 2)) <ℤ (r +ℤ pos (2 ^ f)))
-nearest_kept w m f x s r all many few is floor fits = grind (arith, half_is, wrap-fits)
-
 -- ---- floors by shifts
 
 -- the rest above the greatest multiple
@@ -100,6 +94,19 @@ nearest_is w m f x s r all many few is floor =
     let next = times-next floor.whole (2 ^ f) in
     let nearest : Up x (2 ^ f) floor.whole = record { low = omega (arith, ints); high = omega (arith, ints) } in
     floor.bits ∙ ap (λ z. z *ℤ pos (2 ^ f)) (up_gives x (2 ^ f) floor.whole (pow_pos f) nearest)
+
+-- the same and its bounds, of a wrapping sum that fits
+pub nearest_kept : (w : Width) (m f : ℕ) (x s r : ℤ) → m ≡ 2 ^ bits w → 6 ≤ f → f + 2 ≤ bits w
+    → s ≡ wrap (bits w) (x +ℤ to_z w (1 * 2 ^ (f - 1) % m)) → IsFloor f s r → FitsBits (bits w) (x +ℤ pos (2 ^ f / 2))
+    → (r ≡ rounded f x) × (r ≤ℤ (x +ℤ pos (2 ^ f / 2))) × ((x +ℤ pos (2 ^ f / 2)) <ℤ (r +ℤ pos (2 ^ f)))
+nearest_kept w m f x s r all many few is floor fits =
+    let half = half_is w m f all many few in
+    let sum = is ∙ wrap-fits (bits w) (x +ℤ to_z w (1 * 2 ^ (f - 1) % m)) (bits_positive w) (rw half fits) in
+    let same = rw half at sum in (
+      nearest_is w m f x s r all many few sum floor,
+      rw (← same) floor.low,
+      rw (← same) floor.high,
+    )
 
 -- the nearest integer by its bounds, as code returns it
 pub rounded_bounds : (w : Width) (f : ℕ) (x r : ℤ) → 6 ≤ f → SFits w r → r ≡ rounded f x

@@ -164,7 +164,8 @@ where
         ensures whole { IsIntegral F (bits_of result) }
         // For proofs.
         ensures exact { FitsBits 16 (bits_of self.entry +ℤ pos (2 ^ F / 2))
-            → (bits_of result ≤ℤ (bits_of self.entry +ℤ pos (2 ^ F / 2)))
+            → (bits_of result ≡ rounded F (bits_of self.entry))
+            × (bits_of result ≤ℤ (bits_of self.entry +ℤ pos (2 ^ F / 2)))
             × ((bits_of self.entry +ℤ pos (2 ^ F / 2)) <ℤ (bits_of result +ℤ pos (2 ^ F))) }
     {
         self.wrapping_add(Self(1 << (F - 1))).floor()
@@ -206,11 +207,14 @@ where
     #[inline(always)]
     pub const fn ceil(self) -> Self
         ensures ceiling { IsWrappedCeiling 16 F (bits_of self.entry) (bits_of result) }
+        ensures value { FitsBits 16 (ceiling_of F (bits_of self.entry))
+            → bits_of result ≡ ceiling_of F (bits_of self.entry) }
         // For proofs.
         ensures whole { IsIntegral F (bits_of result) }
         // For proofs.
         ensures exact { FitsBits 16 (bits_of self.entry +ℤ pos (2 ^ F - 1))
-            → (bits_of self.entry ≤ℤ bits_of result)
+            → (bits_of result ≡ ceiling_of F (bits_of self.entry))
+            × (bits_of self.entry ≤ℤ bits_of result)
             × (bits_of result <ℤ (bits_of self.entry +ℤ pos (2 ^ F))) }
     {
         self.wrapping_add(Self((1 << F) - 1)).floor()

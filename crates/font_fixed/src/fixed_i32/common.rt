@@ -163,7 +163,8 @@ where
         ensures whole { IsIntegral F (bits_of result) }
         // For proofs.
         ensures exact { FitsBits 32 (bits_of self.entry +ℤ pos (2 ^ F / 2))
-            → (bits_of result ≤ℤ (bits_of self.entry +ℤ pos (2 ^ F / 2)))
+            → (bits_of result ≡ rounded F (bits_of self.entry))
+            × (bits_of result ≤ℤ (bits_of self.entry +ℤ pos (2 ^ F / 2)))
             × ((bits_of self.entry +ℤ pos (2 ^ F / 2)) <ℤ (bits_of result +ℤ pos (2 ^ F))) }
     {
         self.wrapping_add(Self(1 << (F - 1))).floor()
@@ -205,11 +206,14 @@ where
     #[inline(always)]
     pub const fn ceil(self) -> Self
         ensures ceiling { IsWrappedCeiling 32 F (bits_of self.entry) (bits_of result) }
+        ensures value { FitsBits 32 (ceiling_of F (bits_of self.entry))
+            → bits_of result ≡ ceiling_of F (bits_of self.entry) }
         // For proofs.
         ensures whole { IsIntegral F (bits_of result) }
         // For proofs.
         ensures exact { FitsBits 32 (bits_of self.entry +ℤ pos (2 ^ F - 1))
-            → (bits_of self.entry ≤ℤ bits_of result)
+            → (bits_of result ≡ ceiling_of F (bits_of self.entry))
+            × (bits_of self.entry ≤ℤ bits_of result)
             × (bits_of result <ℤ (bits_of self.entry +ℤ pos (2 ^ F))) }
     {
         self.wrapping_add(Self((1 << F) - 1)).floor()

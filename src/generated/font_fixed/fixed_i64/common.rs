@@ -311,8 +311,10 @@ where
     ///
     /// ```text
     /// ensures ceiling { IsWrappedCeiling 64 F (bits_of self.entry) (bits_of result) }
+    /// ensures value { FitsBits 64 (ceiling_of F (bits_of self.entry))
+    ///     → bits_of result ≡ ceiling_of F (bits_of self.entry) }
     /// ```
-    /// [Notation](crate::definitions): [`IsWrappedCeiling`], [`bits_of`]
+    /// [Notation](crate::definitions): [`IsWrappedCeiling`], [`bits_of`], [`FitsBits`], [`ceiling_of`]
     /// </details>
     #[doc(alias = "FT_CeilFix")]
     #[doc(alias = "FT_PIX_CEIL")]
