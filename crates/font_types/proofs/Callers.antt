@@ -1,6 +1,6 @@
 -- Lemmas of this crate and those below for its callers: the ruleset `calls`, which a crate names once at its head,
 -- `numbers` and `tables`, which a file of numbers or of bytes names at its head, and lemmas for answers. The modules,
--- such as `Orders`, are for answers too: `using` takes no lemma of them.
+-- such as `Orders`, are for answers too: `using` takes no lemma of them, and takes the rulesets at the end.
 use Rattle.font_base.proofs.ScalarCalls.{scalar_calls}
 use Rattle.font_fixed.proofs.{Calls.calls_16, Calls.calls_32, Calls.calls_64, Shifts.shr_low, Shifts.shr_high}
 use Rattle.font_fixed.proofs.Shifts.{average_fits_16, average_is}
@@ -11,7 +11,8 @@ use Rattle.font_tags.proofs.{TagLaws.tag_calls, VersionLaws.compatible_calls}
 use Rattle.font_geom.proofs.{Bounds.bound_calls, Scaled.scaled_calls, Scaled.products_in_order}
 use Rattle.font_types.proofs.SumCalls.{sum_calls_from, sum_calls_16, sum_calls_32, delta_rules}
 use Rattle.font_types.proofs.Parts.{part_calls, unit_calls, between_calls, lerp_calls}
-use Rattle.font_types.proofs.Ratios.{ratio_calls}
+use Rattle.font_types.proofs.{Counts.count_calls, Lines.line_calls, Ratios.ratio_calls}
+use Rattle.font_types.proofs.Lines.{line_calls}
 use Rattle.font_types.proofs.Narrowed.{exact_narrow_calls, exact_sum_is_integral, negation_is_integral}
 use Rattle.font_types.proofs.{Searches.search_calls, StoredBytes.stored_calls, Magnitudes.magnitude_calls}
 use Rattle.font_types.proofs.StoredBytes.{first_24_calls}
@@ -163,6 +164,7 @@ pub ruleset numbers = (
   orders,
   ties,
   shifts,
+  line_calls,
 )
 
 -- for a file of bytes, in place of `calls`: what `calls` has of scalars, records, arrays, searches, tags and versions,
@@ -189,5 +191,61 @@ pub ruleset tables = (
   behind_8,
   follows,
   second_calls,
+  count_calls,
   magnitude_calls,
+)
+
+-- the lemmas of the modules above, for an attribute: it can name a ruleset, and no module
+pub ruleset order_laws = (
+  kept_near,
+  scaled_in_order,
+  narrowed_in_order,
+  rounded_in_order,
+  ups_in_order,
+  multiples_in_order,
+  moved_in_order,
+  near-neg,
+  product_of_opposite,
+  scaled_distance,
+  scaled_back,
+)
+
+pub ruleset group_laws = (
+  wrap-add_comm,
+  wrap-add_assoc,
+  zero_is_neutral,
+  opposite_is_inverse,
+  floor_and_fract,
+  fract_is_below_one,
+)
+
+pub ruleset number_laws = (
+  near_exact,
+  rounded_exact,
+  product_in_one_step,
+  mul_div_exact,
+  itself,
+  mul_div_between,
+  quotient_between,
+  quotient_in_one_step,
+)
+
+pub ruleset tag_laws = (
+  validated_good,
+  checked_good,
+  validates_where_checked,
+  good_is_utf8,
+  tag_calls,
+  good_prints_itself,
+  parsed_again,
+  printed_once,
+)
+
+pub ruleset ring_laws = (
+  products_agree,
+  images_agree,
+  left_identity,
+  right_identity,
+  matrix_product-matrix_product,
+  image_of-matrix_product,
 )

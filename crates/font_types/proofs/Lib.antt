@@ -10,5 +10,7 @@ pub mod ArrayNumbers
 pub mod Below
 pub mod Writes
 pub mod Fields
+pub mod Counts
+pub mod Lines
 pub mod Callers
 pub mod Ties

@@ -274,7 +274,7 @@ near_of_widened x t = grind (arith, *ℤ_comm, near_by_widened)
 
 -- ---- a quotient of two differences that were widened from 2.14: it is rounded as that of the differences themselves
 
-near_quarters : (n : ℤ) (d : ℕ) → 0 < d → near (n *ℤ pos 4) (d * 4) ≡ near n d
+pub near_quarters : (n : ℤ) (d : ℕ) → 0 < d → near (n *ℤ pos 4) (d * 4) ≡ near n d
 near_quarters n d some =
     let h = near_is n d some in
     let four = product-times (near n d) (pos d) (pos 4) in

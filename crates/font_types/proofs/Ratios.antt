@@ -116,7 +116,7 @@ module _ (p x q r : ℤ) (fits_p : SFits w16 p) (fits_q : SFits w16 q) (from : p
 
 -- ---- the same quotients by `rounded_mul_div`, as the contract of `checked_div` states them
 
-as_mul_div : (x a y : ℤ) → pos 0 <ℤ y → near (x *ℤ a) (unsigned_abs y) ≡ rounded_mul_div x a y
+pub as_mul_div : (x a y : ℤ) → pos 0 <ℤ y → near (x *ℤ a) (unsigned_abs y) ≡ rounded_mul_div x a y
 as_mul_div x a (pos n) some = refl
 as_mul_div x a (negsuc n) some = absurd (omega (arith, ints, some))
 
