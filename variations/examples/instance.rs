@@ -104,9 +104,9 @@ impl<'a> Advances<'a> {
     pub fn all(&self, coordinates: &[F2Dot14]) -> Option<Vec<Option<UfWord>>> {
         let (hvar, store) = (self.hvar?, self.hvar?.store());
         let mut scalars = vec![Fixed::ZERO; store.region_count().into()];
-        let instance = store.at(coordinates, &mut scalars)?;
+        let instance = store.instance(coordinates, &mut scalars)?;
         let vary =
-            |glyph| instance.vary(advance_of(self.metrics, glyph)?, hvar.advance_set(glyph)?);
+            |glyph| instance.vary_advance(advance_of(self.metrics, glyph)?, hvar.advance_set(glyph)?);
         Some((0..self.glyph_count).map(GlyphId16::new).map(vary).collect())
     }
 }
@@ -118,7 +118,7 @@ pub fn metrics(font: &Font<'_>, coordinates: &[F2Dot14]) -> Option<Vec<(Tag, F48
     let [size, count, store] = [6, 8, 10].map(|field| u16::read_at(mvar, field).map(usize::from));
     let store = ItemVariationStore::new(mvar.get(store?..)?)?;
     let mut scalars = vec![Fixed::ZERO; store.region_count().into()];
-    let instance = store.at(coordinates, &mut scalars)?;
+    let instance = store.instance(coordinates, &mut scalars)?;
     let delta = |record| {
         let set = DeltaSetIndex::from_u32(u32::read_at(record, 4)?);
         Some((Tag::read_at(record, 0)?, instance.delta(set)?))

@@ -89,12 +89,12 @@ fn of_store(store: ItemVariationStore<'_>, random: &mut Random) -> Option<()> {
     let coordinates = [(); 3].map(|()| F2Dot14::from_bits(random.next() as i16));
     let coordinates = &coordinates[..random.below(4)];
     let mut scalars = [Fixed::MIN; 16];
-    let instance = store.at(coordinates, &mut scalars)?;
+    let instance = store.instance(coordinates, &mut scalars)?;
     assert!(instance.store() == store && instance.coordinates() == coordinates);
     assert!(instance.scalar(store.region_count()).is_none());
     for index in [0, 1, 0x1_0000, u32::MAX, random.next() as u32 & 0x0003_0003] {
         let (set, advance) = (DeltaSetIndex::from_u32(index), UfWord::new(random.next() as u16));
-        let varied = instance.vary(advance, set);
+        let varied = instance.vary_advance(advance, set);
         assert_eq!(store.vary_advance(advance, set, coordinates), varied);
         assert!(varied.is_none() || instance.delta(set).is_some());
         assert!(varied == Some(advance) || !set.is_no_variation());

@@ -20,7 +20,7 @@ use std::error::Error;
 fn varied(advance: u16, store: &[u8], set: DeltaSetIndex, at: &[F2Dot14]) -> Option<UfWord> {
     let store = ItemVariationStore::new(store)?;
     let mut scalars = vec![Fixed::ZERO; store.region_count().into()];
-    store.at(at, &mut scalars)?.vary(UfWord::new(advance), set)
+    store.instance(at, &mut scalars)?.vary_advance(UfWord::new(advance), set)
 }
 
 fn set_to(axis: &[u8; 4], value: i32) -> Setting {
@@ -385,7 +385,7 @@ fn sum(subtable: &[u8], inner: u32) -> Option<F48Dot16> {
     let regions = words(&[1, 2, 0, 0x4000, 0x4000, 0xC000, 0xC000, 0]);
     let store = [&words(&[1, 0, 12, 1, 0, 28])[..], &regions, subtable].concat();
     let (at, mut scalars) = ([F2Dot14::ONE], [Fixed::ZERO; 2]);
-    let instance = ItemVariationStore::new(&store)?.at(&at, &mut scalars)?;
+    let instance = ItemVariationStore::new(&store)?.instance(&at, &mut scalars)?;
     instance.delta(DeltaSetIndex { outer: 0, inner })
 }
 
@@ -452,9 +452,9 @@ fn variations_that_are_refused() {
     let (peak, hvar) = ([F2Dot14::ONE], Hvar::new(&HVAR_OF_ONE).unwrap());
     let (store, set) = (hvar.store(), hvar.advance_set(GlyphId16::new(0)).unwrap());
     let mut scalars = [Fixed::ZERO];
-    let instance = store.at(&peak, &mut scalars).unwrap();
+    let instance = store.instance(&peak, &mut scalars).unwrap();
     for (advance, varied) in [(0xFFD7, Some(0xFFFF)), (0xFFD8, None)] {
-        assert_eq!(instance.vary(UfWord::new(advance), set), varied.map(UfWord::new));
+        assert_eq!(instance.vary_advance(UfWord::new(advance), set), varied.map(UfWord::new));
     }
     // No room for the scalar of the second region: nothing is written.
     let store = &HVAR_OF_ONE[20..];
@@ -462,11 +462,11 @@ fn variations_that_are_refused() {
     of_two[15] = 2;
     let two = ItemVariationStore::new(&of_two).unwrap();
     let mut scalars = [Fixed::MIN];
-    assert!(two.at(&peak, &mut scalars).is_none());
+    assert!(two.instance(&peak, &mut scalars).is_none());
     assert_eq!(scalars, [Fixed::MIN]);
     // What is behind the last region is as before.
     let mut scalars = [Fixed::MIN; 3];
-    assert!(two.at(&peak, &mut scalars).is_some());
+    assert!(two.instance(&peak, &mut scalars).is_some());
     assert_eq!(scalars[2..], [Fixed::MIN]);
     // A store of format 2.
     assert!(ItemVariationStore::new(&[&[0, 2][..], &of_two[2..]].concat()).is_none());
@@ -505,11 +505,11 @@ fn regions_of_many_axes() {
         assert_eq!((count(&store), count(&store[..15])), (Some(1), Some(0)));
         let mut scalars = [Fixed::ZERO; 1];
         let of_one = ItemVariationStore::new(&store).unwrap();
-        let instance = of_one.at(&coordinates, &mut scalars).unwrap();
+        let instance = of_one.instance(&coordinates, &mut scalars).unwrap();
         let set = DeltaSetIndex { outer: 0, inner: 0 };
         assert_eq!(instance.scalar(0), Some(scalar), "{axes}");
         assert_eq!(instance.delta(set), Some(F48Dot16::from_i32(100)), "{axes}");
-        assert_eq!(instance.vary(UfWord::new(500), set), Some(UfWord::new(600)));
+        assert_eq!(instance.vary_advance(UfWord::new(500), set), Some(UfWord::new(600)));
     }
 }
 

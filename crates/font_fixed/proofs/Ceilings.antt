@@ -1,6 +1,6 @@
 -- Ceilings of numbers of w bits with f fraction bits: the floor of a step less one unit more.
 use Rattle.std.proofs.Common.{◌≡◌, ◌∙◌, sym, ap, refl, ℕ, ◌+◌, ◌-◌, ◌*◌, ◌%◌, ◌^◌, ◌<◌, ◌≤◌, ℤ, pos, neg_ℤ, ◌+ℤ◌, ◌-ℤ◌}
-use Rattle.std.proofs.Common.{◌*ℤ◌, ◌≤ℤ◌, ◌<ℤ◌, arith, pow_pos, SFits, to_z, of_z}
+use Rattle.std.proofs.Common.{◌*ℤ◌, ◌≤ℤ◌, ◌<ℤ◌, arith, pow_pos, SFits, to_z, of_z, unsigned_abs}
 use Rattle.std.proofs.lemmas.Int.{ints, by_lt_z, to_z-of_z}
 use Rattle.std.specs.Int.{Width}
 use mir.Val.{bits, hbits}
@@ -10,7 +10,7 @@ use Rattle.font_base.proofs.Widths.{bits_positive, half_range-bits}
 use Rattle.font_decimal.proofs.Integers.{neg-times, times_monotone}
 use Rattle.font_fixed.specs.Operations.{IsFloor, IsCeiling, IsWrappedCeiling, floor_of, ceiling_of}
 use Rattle.font_fixed.proofs.{Narrowing.fits_low, Rounds.shr_is_floor, Rounds.step_is, Rounds.step_below, Rounds.top}
-use Rattle.font_fixed.proofs.Rounds.{whole, floor_fits}
+use Rattle.font_fixed.proofs.Rounds.{whole, floor_fits, small_fits}
 
 -- the greatest multiple of a step that is not above is the floor
 floor_gives : (f : ℕ) (x u : ℤ) → (u *ℤ pos (2 ^ f)) ≤ℤ x → x <ℤ ((u *ℤ pos (2 ^ f)) +ℤ pos (2 ^ f))
@@ -92,6 +92,12 @@ ceiling_kept w m f x s r all few is floor fits =
     let sum = moved ∙ wrap-fits (bits w) (x +ℤ (pos (2 ^ f) -ℤ pos 1)) (bits_positive w) kept in
     let ceiling = floor_is_ceiling f x s r (omega (arith, ints, sum)) floor in
     (ceiling.is, ceiling.low, ceiling.high)
+
+pub ceiling_small : (w : Width) (m f : ℕ) (x s r : ℤ) → m ≡ 2 ^ bits w → f + 2 ≤ bits w
+    → s ≡ wrap (bits w) (x +ℤ to_z w (of_z w (to_z w (1 * 2 ^ f % m) -ℤ pos 1))) → IsFloor f s r
+    → unsigned_abs x ≤ 2 ^ (bits w - 2) → (r ≡ ceiling_of f x) × (x ≤ℤ r) × (r <ℤ (x +ℤ pos (2 ^ f)))
+ceiling_small w m f x s r all few is floor small =
+    ceiling_kept w m f x s r all few is floor (small_fits w f (2 ^ f - 1) x few (omega (arith, pow_pos f)) small)
 
 -- a step less one unit is added, if that fits
 pub ceiling_is : (w : Width) (m f : ℕ) (x s r : ℤ) → m ≡ 2 ^ bits w → f + 2 ≤ bits w

@@ -1,7 +1,7 @@
 -- Numbers of w bits with f fraction bits, for every f in range: the steps and halves of code, floors by shifts, and the
 -- nearest integer as the floor of half a step more.
 use Rattle.std.proofs.Common.{◌≡◌, ◌∙◌, ap, ℕ, ◌+◌, ◌-◌, ◌*◌, ◌/◌, ◌%◌, ◌^◌, ◌<◌, ◌≤◌, ℤ, pos, neg_ℤ, ◌+ℤ◌, ◌*ℤ◌, ◌≤ℤ◌}
-use Rattle.std.proofs.Common.{◌<ℤ◌, arith, pow_pos, div-add-mod', IsTrue, SFits, to_z, of_z, pow-add, mod-lt}
+use Rattle.std.proofs.Common.{◌<ℤ◌, arith, pow_pos, div-add-mod', IsTrue, SFits, to_z, of_z, pow-add, mod-lt, suc, lit<, unsigned_abs}
 use Rattle.std.proofs.lemmas.Int.{ints, by_lt_z, to_z_pos, to_z-of_z}
 use Rattle.std.proofs.Math.Nat.{two-pow-succ, pow-le-pow_right}
 use Rattle.std.proofs.{lemmas.Bool.Decides.nat_tests, lemmas.Nat.one_shl}
@@ -107,6 +107,25 @@ nearest_kept w m f x s r all many few is floor fits =
       rw (← same) floor.low,
       rw (← same) floor.high,
     )
+
+-- less than a quarter of the range moves a number of at most a quarter to one that fits
+pub small_fits : (w : Width) (f n : ℕ) (x : ℤ) → f + 2 ≤ bits w → n < 2 ^ f → unsigned_abs x ≤ 2 ^ (bits w - 2)
+    → FitsBits (bits w) (x +ℤ pos n)
+small_fits w f n x few below small =
+    let step : 2 ^ f ≤ 2 ^ (bits w - 2) = pow-le-pow_right (lit< tt) (omega (arith, few)) in
+    let suc_quarter : bits w - 1 ≡ suc (bits w - 2) = omega (arith, few) in
+    let half : 2 ^ (bits w - 1) ≡ 2 ^ (bits w - 2) + 2 ^ (bits w - 2) = rw suc_quarter (two-pow-succ (bits w - 2)) in
+    record {
+      low = omega (arith, ints, small, half);
+      high = omega (arith, ints, small, half, below, step);
+    }
+
+pub nearest_small : (w : Width) (m f : ℕ) (x s r : ℤ) → m ≡ 2 ^ bits w → 6 ≤ f → f + 2 ≤ bits w
+    → s ≡ wrap (bits w) (x +ℤ to_z w (1 * 2 ^ (f - 1) % m)) → IsFloor f s r → unsigned_abs x ≤ 2 ^ (bits w - 2)
+    → (r ≡ rounded f x) × (r ≤ℤ (x +ℤ pos (2 ^ f / 2))) × ((x +ℤ pos (2 ^ f / 2)) <ℤ (r +ℤ pos (2 ^ f)))
+nearest_small w m f x s r all many few is floor small =
+    let below : 2 ^ f / 2 < 2 ^ f = omega (arith, two_halves f many, pow_pos f) in
+    nearest_kept w m f x s r all many few is floor (small_fits w f (2 ^ f / 2) x few below small)
 
 -- the nearest integer by its bounds, as code returns it
 pub rounded_bounds : (w : Width) (f : ℕ) (x r : ℤ) → 6 ≤ f → SFits w r → r ≡ rounded f x

@@ -80,21 +80,21 @@ axis_bytes fvar axis = drop (axis_offset fvar axis) fvar
 abbrev pub axis_tag_bytes : List ℕ → ℕ → List ℕ
 axis_tag_bytes fvar axis = take 4 (axis_bytes fvar axis)
 
-abbrev pub min_of : List ℕ → ℕ → ℤ
-min_of fvar axis = signed_numeral 4 (take 4 (drop 4 (axis_bytes fvar axis)))
+abbrev pub axis_min : List ℕ → ℕ → ℤ
+axis_min fvar axis = signed_numeral 4 (take 4 (drop 4 (axis_bytes fvar axis)))
 
-abbrev pub default_of : List ℕ → ℕ → ℤ
-default_of fvar axis = signed_numeral 4 (take 4 (drop 8 (axis_bytes fvar axis)))
+abbrev pub axis_default : List ℕ → ℕ → ℤ
+axis_default fvar axis = signed_numeral 4 (take 4 (drop 8 (axis_bytes fvar axis)))
 
-abbrev pub max_of : List ℕ → ℕ → ℤ
-max_of fvar axis = signed_numeral 4 (take 4 (drop 12 (axis_bytes fvar axis)))
+abbrev pub axis_max : List ℕ → ℕ → ℤ
+axis_max fvar axis = signed_numeral 4 (take 4 (drop 12 (axis_bytes fvar axis)))
 
 -- the axis in this record (OpenType, "VariationAxisRecord")
 pub record IsAxis (fvar : List ℕ) (index : ℕ) (axis : VariationAxisRecord) : Type 0 where
   pub axis_tag : tag_bytes axis.axis_tag ≡ axis_tag_bytes fvar index
-  pub min_value : fixed_bits axis.min_value ≡ min_of fvar index
-  pub default_value : fixed_bits axis.default_value ≡ default_of fvar index
-  pub max_value : fixed_bits axis.max_value ≡ max_of fvar index
+  pub min_value : fixed_bits axis.min_value ≡ axis_min fvar index
+  pub default_value : fixed_bits axis.default_value ≡ axis_default fvar index
+  pub max_value : fixed_bits axis.max_value ≡ axis_max fvar index
   pub flags : axis.flags ≡ numeral (take 2 (drop 16 (axis_bytes fvar index)))
   pub axis_name_id : name_number axis.axis_name_id ≡ numeral (take 2 (drop 18 (axis_bytes fvar index)))
 
@@ -275,15 +275,15 @@ HasMap avar axis = IfSome avar (λ avar. HasSegmentMap avar axis)
 -- a value on the axis has a coordinate: the axis and its map are there, and it has a range
 pub record HasCoordinate (fvar : List ℕ) (avar : Option (List ℕ)) (axis : ℕ) : Type 0 where
   pub there : HasAxis fvar axis
-  pub range : HasRange (min_of fvar axis) (default_of fvar axis) (max_of fvar axis)
+  pub range : HasRange (axis_min fvar axis) (axis_default fvar axis) (axis_max fvar axis)
   pub map : HasMap avar axis
 
 -- the coordinate of the value that the axis is set to
 pub record IsCoordinateOf (fvar : List ℕ) (avar : Option (List ℕ)) (settings : List Setting) (axis : ℕ)
     (stored : F2Dot14) : Type 0 where
   pub value : ℤ
-  pub is_value : IsSetTo settings (axis_tag_bytes fvar axis) (default_of fvar axis) (length settings) value
-  pub is_coordinate : IsCoordinate (min_of fvar axis) (default_of fvar axis) (max_of fvar axis) value
+  pub is_value : IsSetTo settings (axis_tag_bytes fvar axis) (axis_default fvar axis) (length settings) value
+  pub is_coordinate : IsCoordinate (axis_min fvar axis) (axis_default fvar axis) (axis_max fvar axis) value
       (map_of avar axis) stored
 
 -- each axis has a coordinate
@@ -311,7 +311,7 @@ IsAxisError fvar avar axis (NoRecord index) = (index ≡ axis) × (¬ HasAxis fv
 IsAxisError fvar avar axis (NoMap tag) = HasAxis fvar axis × (tag_bytes tag ≡ axis_tag_bytes fvar axis)
     × (¬ HasMap avar axis)
 IsAxisError fvar avar axis (NoRange tag) = HasAxis fvar axis × (tag_bytes tag ≡ axis_tag_bytes fvar axis)
-    × HasMap avar axis × (¬ HasRange (min_of fvar axis) (default_of fvar axis) (max_of fvar axis))
+    × HasMap avar axis × (¬ HasRange (axis_min fvar axis) (axis_default fvar axis) (axis_max fvar axis))
 IsAxisError fvar avar axis (NoAxis tag) = ⊥
 
 -- `Places`, if the places are more or fewer than the axes; else the error of the first axis without a coordinate

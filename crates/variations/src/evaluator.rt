@@ -266,7 +266,8 @@ impl<'a> Fvar<'a> {
             coordinates.new) }
         ensures within { IfOk result (λ _. All IsWithinOne coordinates.new) }
     {
-        check_axes(self, avar, coordinates.len())?;
+        let places = coordinates.len();
+        check_axes(self, avar, places)?;
         write_coordinates(self, avar, settings, coordinates);
         Ok(())
     }

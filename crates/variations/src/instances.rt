@@ -59,7 +59,7 @@ impl<'a> ItemVariationStore<'a> {
     }
 
     /// Returns the count that the list of regions has, or 0 if the list ends before it.
-    /// [`at`](ItemVariationStore::at) needs at most as many scalars.
+    /// [`instance`](ItemVariationStore::instance) needs at most as many scalars.
     #[must_use]
     pub fn region_count(&self) -> u16
         ensures value { 4 ≤ length (regions_of self.now.bytes.now)
@@ -75,7 +75,7 @@ impl<'a> ItemVariationStore<'a> {
     /// and keeps the rest. Axes beyond the coordinates are at their default, and with `&[]` all are.
     /// Returns `None` if there are more regions than `scalars` holds; then `scalars` is as before.
     #[must_use]
-    pub fn at(
+    pub fn instance(
         &self,
         coordinates: &'a [F2Dot14],
         scalars: &'a mut [Fixed],
@@ -96,12 +96,13 @@ impl<'a> ItemVariationStore<'a> {
         })
     }
 
-    /// Varies an advance by a set at these coordinates, as [`StoreInstance::vary`] does, but without
-    /// a buffer. Axes beyond the coordinates are at their default, and with `&[]` all are.
+    /// Varies an advance by a set at these coordinates, as [`StoreInstance::vary_advance`] does, but
+    /// without a buffer. Axes beyond the coordinates are at their default, and with `&[]` all are.
     ///
     /// It walks the axes of the region of each column of the set, up to one that makes the scalar 0.
     /// So the time can be that of all axes times all columns, whatever the number of coordinates.
-    /// For more than one advance, and for an untrusted font, use [`at`](ItemVariationStore::at).
+    /// For more than one advance, and for an untrusted font, use
+    /// [`instance`](ItemVariationStore::instance).
     #[must_use]
     pub fn vary_advance(
         &self,
@@ -129,7 +130,7 @@ impl<'a> ItemVariationStore<'a> {
             coordinates,
             scalars: None,
         };
-        instance.vary(advance, set)
+        instance.vary_advance(advance, set)
     }
 
     // Finds the subtable of a set, and the index of the set in it.
@@ -161,15 +162,15 @@ impl<'a> ItemVariationStore<'a> {
 /// let store = ItemVariationStore::new(&store).unwrap();
 /// let half = [F2Dot14::from_decimal("0.5").unwrap()];
 /// let mut scalars = vec![Fixed::ZERO; store.region_count().into()];
-/// let instance = store.at(&half, &mut scalars).unwrap();
+/// let instance = store.instance(&half, &mut scalars).unwrap();
 /// let set = DeltaSetIndex { outer: 0, inner: 0 };
 /// assert_eq!(instance.delta(set), Some(F48Dot16::from_i64(20)));
-/// assert_eq!(instance.vary(UfWord::new(500), set), Some(UfWord::new(520)));
+/// assert_eq!(instance.vary_advance(UfWord::new(500), set), Some(UfWord::new(520)));
 /// ```
 ///
-/// [`at`](ItemVariationStore::at) walks each axis of each region at most once. Its time is linear in
-/// the bytes of the store and the number of its regions, which is at most 32,767. After that a delta
-/// of a set takes one product.
+/// [`instance`](ItemVariationStore::instance) walks each axis of each region at most once. Its time
+/// is linear in the bytes of the store and the number of its regions, which is at most 32,767. After
+/// that a delta of a set takes one product.
 ///
 /// So the advances of all glyphs take at most as many products as the number of glyphs times the
 /// greatest number of columns. The columns of a set are fewer than a third of the bytes of the
@@ -304,7 +305,7 @@ impl<'a> StoreInstance<'a> {
     /// not change the advance. Returns `None` if the store does not have the set, or the result is
     /// out of range.
     #[must_use]
-    pub fn vary(&self, advance: UfWord, set: DeltaSetIndex) -> Option<UfWord>
+    pub fn vary_advance(&self, advance: UfWord, set: DeltaSetIndex) -> Option<UfWord>
         ensures unvaried { IsNoVariation set.outer set.inner → result ≡ Some advance }
         ensures value { ¬ IsNoVariation set.outer set.inner → MatchOption result
             ((¬ HasData self.now.store.bytes.now set.outer set.inner) ⊎ HasNoVaried

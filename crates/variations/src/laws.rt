@@ -31,7 +31,7 @@ pub fn varied_alike(
         set.inner (ufword_number advance) (pos (ufword_number varied))) }
     ensures equal { result.0 ≡ result.1 }
 {
-    let by_instance = instance.vary(advance, set);
+    let by_instance = instance.vary_advance(advance, set);
     let by_store = instance
         .store()
         .vary_advance(advance, set, instance.coordinates());

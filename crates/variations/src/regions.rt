@@ -265,8 +265,8 @@ fn has_more(regions: &[u8], scalars: usize) -> bool
 
 // Writes the scalar of each region of a list, in order, and returns how many regions it has, those
 // that it ends before left out. If there are more of them than `scalars`, returns `None`, and
-// writes nothing. The contract of `ItemVariationStore::at` cannot name what its buffer becomes,
-// because the instance keeps it.
+// writes nothing. The contract of `ItemVariationStore::instance` cannot name what its buffer
+// becomes, because the instance keeps it.
 #[tactic(auto, using(font_types::proofs::Callers::calls, crate::proofs::Stores::row_rules))]
 pub(crate) fn region_scalars(
     regions: &[u8],

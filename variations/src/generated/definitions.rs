@@ -837,7 +837,7 @@ pub mod variations {
 
     /// Coordinates of an instance: settings, and the tables `fvar` and `avar`.
     ///
-    /// In the order of `crates/variations/specs/Evaluator.antt`: [`value_start`](mod@Evaluator_antt::value_start), [`axis_part`](mod@Evaluator_antt::axis_part), [`value_part`](mod@Evaluator_antt::value_part), [`IsSetting`](mod@Evaluator_antt::IsSetting), [`ParsesSetting`](mod@Evaluator_antt::ParsesSetting), [`fvar_version`](mod@Evaluator_antt::fvar_version), [`fvar_axis_count`](mod@Evaluator_antt::fvar_axis_count), [`fvar_axis_size`](mod@Evaluator_antt::fvar_axis_size), [`IsFvar`](mod@Evaluator_antt::IsFvar), [`axis_offset`](mod@Evaluator_antt::axis_offset), [`HasAxis`](mod@Evaluator_antt::HasAxis), [`axis_bytes`](mod@Evaluator_antt::axis_bytes), [`axis_tag_bytes`](mod@Evaluator_antt::axis_tag_bytes), [`min_of`](mod@Evaluator_antt::min_of), [`default_of`](mod@Evaluator_antt::default_of), [`max_of`](mod@Evaluator_antt::max_of), [`IsAxis`](mod@Evaluator_antt::IsAxis), [`HasRange`](mod@Evaluator_antt::HasRange), [`IsNormalized`](mod@Evaluator_antt::IsNormalized), [`lerp_part`](mod@Evaluator_antt::lerp_part), [`lerp_whole`](mod@Evaluator_antt::lerp_whole), [`lerp_rise`](mod@Evaluator_antt::lerp_rise), [`on_line`](mod@Evaluator_antt::on_line), [`FitsLerp`](mod@Evaluator_antt::FitsLerp), [`IsLerp`](mod@Evaluator_antt::IsLerp), [`mapping_count`](mod@Evaluator_antt::mapping_count), [`mapping_at`](mod@Evaluator_antt::mapping_at), [`AreBelow`](mod@Evaluator_antt::AreBelow), [`IsSegmentEnd`](mod@Evaluator_antt::IsSegmentEnd), [`IsMappedIn`](mod@Evaluator_antt::IsMappedIn), [`IsMapped`](mod@Evaluator_antt::IsMapped), [`avar_version`](mod@Evaluator_antt::avar_version), [`IsAvar`](mod@Evaluator_antt::IsAvar), [`avar_axis_count`](mod@Evaluator_antt::avar_axis_count), [`position_map_count`](mod@Evaluator_antt::position_map_count), [`map_offset`](mod@Evaluator_antt::map_offset), [`map_length`](mod@Evaluator_antt::map_length), [`HasSegmentMap`](mod@Evaluator_antt::HasSegmentMap), [`segment_map_bytes`](mod@Evaluator_antt::segment_map_bytes), [`IsStoredCoordinate`](mod@Evaluator_antt::IsStoredCoordinate), [`IsFinal`](mod@Evaluator_antt::IsFinal), [`IsWithinOne`](mod@Evaluator_antt::IsWithinOne), [`IsCoordinate`](mod@Evaluator_antt::IsCoordinate), [`AreOfOthers`](mod@Evaluator_antt::AreOfOthers), [`IsLastOf`](mod@Evaluator_antt::IsLastOf), [`IsSetTo`](mod@Evaluator_antt::IsSetTo), [`map_of`](mod@Evaluator_antt::map_of), [`HasMap`](mod@Evaluator_antt::HasMap), [`HasCoordinate`](mod@Evaluator_antt::HasCoordinate), [`IsCoordinateOf`](mod@Evaluator_antt::IsCoordinateOf), [`HaveCoordinates`](mod@Evaluator_antt::HaveCoordinates), [`AreCoordinates`](mod@Evaluator_antt::AreCoordinates), [`IsFirstWithout`](mod@Evaluator_antt::IsFirstWithout), [`IsAxisError`](mod@Evaluator_antt::IsAxisError), [`IsAxesError`](mod@Evaluator_antt::IsAxesError), [`HasTag`](mod@Evaluator_antt::HasTag), [`IsOfAxis`](mod@Evaluator_antt::IsOfAxis), [`AreOfAxes`](mod@Evaluator_antt::AreOfAxes), [`IsFirstUnknown`](mod@Evaluator_antt::IsFirstUnknown), [`IsSettingError`](mod@Evaluator_antt::IsSettingError), [`IsCoordinatesError`](mod@Evaluator_antt::IsCoordinatesError).
+    /// In the order of `crates/variations/specs/Evaluator.antt`: [`value_start`](mod@Evaluator_antt::value_start), [`axis_part`](mod@Evaluator_antt::axis_part), [`value_part`](mod@Evaluator_antt::value_part), [`IsSetting`](mod@Evaluator_antt::IsSetting), [`ParsesSetting`](mod@Evaluator_antt::ParsesSetting), [`fvar_version`](mod@Evaluator_antt::fvar_version), [`fvar_axis_count`](mod@Evaluator_antt::fvar_axis_count), [`fvar_axis_size`](mod@Evaluator_antt::fvar_axis_size), [`IsFvar`](mod@Evaluator_antt::IsFvar), [`axis_offset`](mod@Evaluator_antt::axis_offset), [`HasAxis`](mod@Evaluator_antt::HasAxis), [`axis_bytes`](mod@Evaluator_antt::axis_bytes), [`axis_tag_bytes`](mod@Evaluator_antt::axis_tag_bytes), [`axis_min`](mod@Evaluator_antt::axis_min), [`axis_default`](mod@Evaluator_antt::axis_default), [`axis_max`](mod@Evaluator_antt::axis_max), [`IsAxis`](mod@Evaluator_antt::IsAxis), [`HasRange`](mod@Evaluator_antt::HasRange), [`IsNormalized`](mod@Evaluator_antt::IsNormalized), [`lerp_part`](mod@Evaluator_antt::lerp_part), [`lerp_whole`](mod@Evaluator_antt::lerp_whole), [`lerp_rise`](mod@Evaluator_antt::lerp_rise), [`on_line`](mod@Evaluator_antt::on_line), [`FitsLerp`](mod@Evaluator_antt::FitsLerp), [`IsLerp`](mod@Evaluator_antt::IsLerp), [`mapping_count`](mod@Evaluator_antt::mapping_count), [`mapping_at`](mod@Evaluator_antt::mapping_at), [`AreBelow`](mod@Evaluator_antt::AreBelow), [`IsSegmentEnd`](mod@Evaluator_antt::IsSegmentEnd), [`IsMappedIn`](mod@Evaluator_antt::IsMappedIn), [`IsMapped`](mod@Evaluator_antt::IsMapped), [`avar_version`](mod@Evaluator_antt::avar_version), [`IsAvar`](mod@Evaluator_antt::IsAvar), [`avar_axis_count`](mod@Evaluator_antt::avar_axis_count), [`position_map_count`](mod@Evaluator_antt::position_map_count), [`map_offset`](mod@Evaluator_antt::map_offset), [`map_length`](mod@Evaluator_antt::map_length), [`HasSegmentMap`](mod@Evaluator_antt::HasSegmentMap), [`segment_map_bytes`](mod@Evaluator_antt::segment_map_bytes), [`IsStoredCoordinate`](mod@Evaluator_antt::IsStoredCoordinate), [`IsFinal`](mod@Evaluator_antt::IsFinal), [`IsWithinOne`](mod@Evaluator_antt::IsWithinOne), [`IsCoordinate`](mod@Evaluator_antt::IsCoordinate), [`AreOfOthers`](mod@Evaluator_antt::AreOfOthers), [`IsLastOf`](mod@Evaluator_antt::IsLastOf), [`IsSetTo`](mod@Evaluator_antt::IsSetTo), [`map_of`](mod@Evaluator_antt::map_of), [`HasMap`](mod@Evaluator_antt::HasMap), [`HasCoordinate`](mod@Evaluator_antt::HasCoordinate), [`IsCoordinateOf`](mod@Evaluator_antt::IsCoordinateOf), [`HaveCoordinates`](mod@Evaluator_antt::HaveCoordinates), [`AreCoordinates`](mod@Evaluator_antt::AreCoordinates), [`IsFirstWithout`](mod@Evaluator_antt::IsFirstWithout), [`IsAxisError`](mod@Evaluator_antt::IsAxisError), [`IsAxesError`](mod@Evaluator_antt::IsAxesError), [`HasTag`](mod@Evaluator_antt::HasTag), [`IsOfAxis`](mod@Evaluator_antt::IsOfAxis), [`AreOfAxes`](mod@Evaluator_antt::AreOfAxes), [`IsFirstUnknown`](mod@Evaluator_antt::IsFirstUnknown), [`IsSettingError`](mod@Evaluator_antt::IsSettingError), [`IsCoordinatesError`](mod@Evaluator_antt::IsCoordinatesError).
     pub mod Evaluator_antt {
         use crate::definitions::font_base::{
             Bytes_antt::{numeral, signed_numeral},
@@ -981,42 +981,42 @@ pub mod variations {
         /// its tag, and its least, default and greatest values, raw values of 16.16
         ///
         /// ```text
-        /// abbrev min_of : List ℕ → ℕ → ℤ
-        /// min_of fvar axis = signed_numeral 4 (take 4 (drop 4 (axis_bytes fvar axis)))
+        /// abbrev axis_min : List ℕ → ℕ → ℤ
+        /// axis_min fvar axis = signed_numeral 4 (take 4 (drop 4 (axis_bytes fvar axis)))
         /// ```
         /// [`signed_numeral`], [`axis_bytes`]
-        pub mod min_of {}
+        pub mod axis_min {}
 
         /// its tag, and its least, default and greatest values, raw values of 16.16
         ///
         /// ```text
-        /// abbrev default_of : List ℕ → ℕ → ℤ
-        /// default_of fvar axis = signed_numeral 4 (take 4 (drop 8 (axis_bytes fvar axis)))
+        /// abbrev axis_default : List ℕ → ℕ → ℤ
+        /// axis_default fvar axis = signed_numeral 4 (take 4 (drop 8 (axis_bytes fvar axis)))
         /// ```
         /// [`signed_numeral`], [`axis_bytes`]
-        pub mod default_of {}
+        pub mod axis_default {}
 
         /// its tag, and its least, default and greatest values, raw values of 16.16
         ///
         /// ```text
-        /// abbrev max_of : List ℕ → ℕ → ℤ
-        /// max_of fvar axis = signed_numeral 4 (take 4 (drop 12 (axis_bytes fvar axis)))
+        /// abbrev axis_max : List ℕ → ℕ → ℤ
+        /// axis_max fvar axis = signed_numeral 4 (take 4 (drop 12 (axis_bytes fvar axis)))
         /// ```
         /// [`signed_numeral`], [`axis_bytes`]
-        pub mod max_of {}
+        pub mod axis_max {}
 
         /// the axis in this record (OpenType, "VariationAxisRecord")
         ///
         /// ```text
         /// record IsAxis (fvar : List ℕ) (index : ℕ) (axis : VariationAxisRecord) : Type 0 where
         ///   axis_tag : tag_bytes axis.axis_tag ≡ axis_tag_bytes fvar index
-        ///   min_value : fixed_bits axis.min_value ≡ min_of fvar index
-        ///   default_value : fixed_bits axis.default_value ≡ default_of fvar index
-        ///   max_value : fixed_bits axis.max_value ≡ max_of fvar index
+        ///   min_value : fixed_bits axis.min_value ≡ axis_min fvar index
+        ///   default_value : fixed_bits axis.default_value ≡ axis_default fvar index
+        ///   max_value : fixed_bits axis.max_value ≡ axis_max fvar index
         ///   flags : axis.flags ≡ numeral (take 2 (drop 16 (axis_bytes fvar index)))
         ///   axis_name_id : name_number axis.axis_name_id ≡ numeral (take 2 (drop 18 (axis_bytes fvar index)))
         /// ```
-        /// [`tag_bytes`], [`axis_tag_bytes`], [`fixed_bits`], [`min_of`], [`default_of`], [`max_of`], [`numeral`], [`axis_bytes`], [`name_number`]
+        /// [`tag_bytes`], [`axis_tag_bytes`], [`fixed_bits`], [`axis_min`], [`axis_default`], [`axis_max`], [`numeral`], [`axis_bytes`], [`name_number`]
         pub mod IsAxis {}
 
         /// an axis that values can be normalized by: the default is within the range, and 16.16 holds the length of the range
@@ -1349,10 +1349,10 @@ pub mod variations {
         /// ```text
         /// record HasCoordinate (fvar : List ℕ) (avar : Option (List ℕ)) (axis : ℕ) : Type 0 where
         ///   there : HasAxis fvar axis
-        ///   range : HasRange (min_of fvar axis) (default_of fvar axis) (max_of fvar axis)
+        ///   range : HasRange (axis_min fvar axis) (axis_default fvar axis) (axis_max fvar axis)
         ///   map : HasMap avar axis
         /// ```
-        /// [`HasAxis`], [`HasRange`], [`min_of`], [`default_of`], [`max_of`], [`HasMap`]
+        /// [`HasAxis`], [`HasRange`], [`axis_min`], [`axis_default`], [`axis_max`], [`HasMap`]
         pub mod HasCoordinate {}
 
         /// the coordinate of the value that the axis is set to
@@ -1361,11 +1361,11 @@ pub mod variations {
         /// record IsCoordinateOf (fvar : List ℕ) (avar : Option (List ℕ)) (settings : List Setting) (axis : ℕ)
         ///     (stored : F2Dot14) : Type 0 where
         ///   value : ℤ
-        ///   is_value : IsSetTo settings (axis_tag_bytes fvar axis) (default_of fvar axis) (length settings) value
-        ///   is_coordinate : IsCoordinate (min_of fvar axis) (default_of fvar axis) (max_of fvar axis) value
+        ///   is_value : IsSetTo settings (axis_tag_bytes fvar axis) (axis_default fvar axis) (length settings) value
+        ///   is_coordinate : IsCoordinate (axis_min fvar axis) (axis_default fvar axis) (axis_max fvar axis) value
         ///       (map_of avar axis) stored
         /// ```
-        /// [`IsSetTo`], [`axis_tag_bytes`], [`default_of`], [`IsCoordinate`], [`min_of`], [`max_of`], [`map_of`]
+        /// [`IsSetTo`], [`axis_tag_bytes`], [`axis_default`], [`IsCoordinate`], [`axis_min`], [`axis_max`], [`map_of`]
         pub mod IsCoordinateOf {}
 
         /// each axis has a coordinate
@@ -1408,10 +1408,10 @@ pub mod variations {
         /// IsAxisError fvar avar axis (NoMap tag) = HasAxis fvar axis × (tag_bytes tag ≡ axis_tag_bytes fvar axis)
         ///     × (¬ HasMap avar axis)
         /// IsAxisError fvar avar axis (NoRange tag) = HasAxis fvar axis × (tag_bytes tag ≡ axis_tag_bytes fvar axis)
-        ///     × HasMap avar axis × (¬ HasRange (min_of fvar axis) (default_of fvar axis) (max_of fvar axis))
+        ///     × HasMap avar axis × (¬ HasRange (axis_min fvar axis) (axis_default fvar axis) (axis_max fvar axis))
         /// IsAxisError fvar avar axis (NoAxis tag) = ⊥
         /// ```
-        /// [`HasAxis`], [`tag_bytes`], [`axis_tag_bytes`], [`HasMap`], [`HasRange`], [`min_of`], [`default_of`], [`max_of`]
+        /// [`HasAxis`], [`tag_bytes`], [`axis_tag_bytes`], [`HasMap`], [`HasRange`], [`axis_min`], [`axis_default`], [`axis_max`]
         pub mod IsAxisError {}
 
         /// `Places`, if the places are more or fewer than the axes; else the error of the first axis without a coordinate

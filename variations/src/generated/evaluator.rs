@@ -307,7 +307,8 @@ impl<'a> Fvar<'a> {
         settings: &[Setting],
         coordinates: &mut [F2Dot14],
     ) -> Result<(), CoordinatesError> {
-        check_axes(self, avar, coordinates.len())?;
+        let places = coordinates.len();
+        check_axes(self, avar, places)?;
         write_coordinates(self, avar, settings, coordinates);
         Ok(())
     }

@@ -75,7 +75,7 @@ impl<'a> ItemVariationStore<'a> {
     }
 
     /// Returns the count that the list of regions has, or 0 if the list ends before it.
-    /// [`at`](ItemVariationStore::at) needs at most as many scalars.
+    /// [`instance`](ItemVariationStore::instance) needs at most as many scalars.
     ///
     /// <details><summary>Contract</summary>
     ///
@@ -110,7 +110,7 @@ impl<'a> ItemVariationStore<'a> {
     /// [Notation](crate::definitions): [`HasRegion`], [`regions_of`]
     /// </details>
     #[must_use]
-    pub fn at(
+    pub fn instance(
         &self,
         coordinates: &'a [F2Dot14],
         scalars: &'a mut [Fixed],
@@ -120,12 +120,13 @@ impl<'a> ItemVariationStore<'a> {
         Some(StoreInstance { store: *self, coordinates, scalars: Some(scalars.get(..count)?) })
     }
 
-    /// Varies an advance by a set at these coordinates, as [`StoreInstance::vary`] does, but without
-    /// a buffer. Axes beyond the coordinates are at their default, and with `&[]` all are.
+    /// Varies an advance by a set at these coordinates, as [`StoreInstance::vary_advance`] does, but
+    /// without a buffer. Axes beyond the coordinates are at their default, and with `&[]` all are.
     ///
     /// It walks the axes of the region of each column of the set, up to one that makes the scalar 0.
     /// So the time can be that of all axes times all columns, whatever the number of coordinates.
-    /// For more than one advance, and for an untrusted font, use [`at`](ItemVariationStore::at).
+    /// For more than one advance, and for an untrusted font, use
+    /// [`instance`](ItemVariationStore::instance).
     ///
     /// <details><summary>Contract</summary>
     ///
@@ -155,7 +156,7 @@ impl<'a> ItemVariationStore<'a> {
         coordinates: &'a [F2Dot14],
     ) -> Option<UfWord> {
         let instance = StoreInstance { store: *self, coordinates, scalars: None };
-        instance.vary(advance, set)
+        instance.vary_advance(advance, set)
     }
 
     // Finds the subtable of a set, and the index of the set in it.
@@ -182,15 +183,15 @@ impl<'a> ItemVariationStore<'a> {
 /// let store = ItemVariationStore::new(&store).unwrap();
 /// let half = [F2Dot14::from_decimal("0.5").unwrap()];
 /// let mut scalars = vec![Fixed::ZERO; store.region_count().into()];
-/// let instance = store.at(&half, &mut scalars).unwrap();
+/// let instance = store.instance(&half, &mut scalars).unwrap();
 /// let set = DeltaSetIndex { outer: 0, inner: 0 };
 /// assert_eq!(instance.delta(set), Some(F48Dot16::from_i64(20)));
-/// assert_eq!(instance.vary(UfWord::new(500), set), Some(UfWord::new(520)));
+/// assert_eq!(instance.vary_advance(UfWord::new(500), set), Some(UfWord::new(520)));
 /// ```
 ///
-/// [`at`](ItemVariationStore::at) walks each axis of each region at most once. Its time is linear in
-/// the bytes of the store and the number of its regions, which is at most 32,767. After that a delta
-/// of a set takes one product.
+/// [`instance`](ItemVariationStore::instance) walks each axis of each region at most once. Its time
+/// is linear in the bytes of the store and the number of its regions, which is at most 32,767. After
+/// that a delta of a set takes one product.
 ///
 /// So the advances of all glyphs take at most as many products as the number of glyphs times the
 /// greatest number of columns. The columns of a set are fewer than a third of the bytes of the
@@ -354,7 +355,7 @@ impl<'a> StoreInstance<'a> {
     /// [Notation](crate::definitions): [`IsNoVariation`], [`HasData`], [`HasNoVaried`], [`regions_of`], [`subtable_of`], [`ufword_number`], [`HasSet`], [`IsVaried`], [`IsNearAdvance`]
     /// </details>
     #[must_use]
-    pub fn vary(&self, advance: UfWord, set: DeltaSetIndex) -> Option<UfWord> {
+    pub fn vary_advance(&self, advance: UfWord, set: DeltaSetIndex) -> Option<UfWord> {
         if set.is_no_variation() {
             return Some(advance);
         }

@@ -42,7 +42,7 @@ pub fn varied_alike(
     advance: UfWord,
     set: DeltaSetIndex,
 ) -> (Option<UfWord>, Option<UfWord>) {
-    let by_instance = instance.vary(advance, set);
+    let by_instance = instance.vary_advance(advance, set);
     let by_store = instance.store().vary_advance(advance, set, instance.coordinates());
     (by_instance, by_store)
 }

@@ -31,8 +31,8 @@ fn set_of(table: &[u8], glyph: u16) -> Option<DeltaSetIndex> {
 
 // The advance 500, varied by the first set of a store.
 fn varied(store: &[u8], coordinates: &[F2Dot14], scalars: &mut [Fixed]) -> Option<UfWord> {
-    let instance = ItemVariationStore::new(store)?.at(coordinates, scalars)?;
-    instance.vary(UfWord::new(500), DeltaSetIndex { outer: 0, inner: 0 })
+    let instance = ItemVariationStore::new(store)?.instance(coordinates, scalars)?;
+    instance.vary_advance(UfWord::new(500), DeltaSetIndex { outer: 0, inner: 0 })
 }
 
 #[test]
@@ -88,7 +88,7 @@ fn advances_by_sets() -> Result<(), Fail> {
     let (store, advance) = (Hvar::new(&HVAR).ok_or("a table")?.store(), UfWord::new(500));
     let (coordinates, mut scalars) = ([F2Dot14::from_bits(0x2000)], [Fixed::ZERO]);
     assert!(rt; store.region_count() == 1);
-    let instance = store.at(&coordinates, &mut scalars).ok_or("one region")?;
+    let instance = store.instance(&coordinates, &mut scalars).ok_or("one region")?;
     assert!(rt; instance.store() == store && instance.coordinates().len() == 1);
     for &(outer, inner, varied) in &[
         (0, 0, Some(520)),
@@ -99,7 +99,7 @@ fn advances_by_sets() -> Result<(), Fail> {
         (0xFFFF, 0xFFFF, Some(500)),
     ] {
         let set = DeltaSetIndex { outer, inner };
-        let found = instance.vary(advance, set);
+        let found = instance.vary_advance(advance, set);
         assert!(rt; found == varied.map(UfWord::new), "{outer} {inner}");
         let alone = store.vary_advance(advance, set, &coordinates);
         assert!(rt; alone == found, "{outer} {inner} without a buffer");

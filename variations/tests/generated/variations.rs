@@ -24,7 +24,7 @@ fn at<'x>(
     coordinates: &'x [F2Dot14],
     scalars: &'x mut [Fixed],
 ) -> Option<StoreInstance<'x>> {
-    ItemVariationStore::new(store)?.at(coordinates, scalars)
+    ItemVariationStore::new(store)?.instance(coordinates, scalars)
 }
 
 // The scalar of a region of a list.

@@ -167,6 +167,11 @@ where
             → (bits_of result ≡ rounded F (bits_of self.entry))
             × (bits_of result ≤ℤ (bits_of self.entry +ℤ pos (2 ^ F / 2)))
             × ((bits_of self.entry +ℤ pos (2 ^ F / 2)) <ℤ (bits_of result +ℤ pos (2 ^ F))) }
+        // For proofs.
+        ensures small { unsigned_abs (bits_of self.entry) ≤ 2 ^ (16 - 2)
+            → (bits_of result ≡ rounded F (bits_of self.entry))
+            × (bits_of result ≤ℤ (bits_of self.entry +ℤ pos (2 ^ F / 2)))
+            × ((bits_of self.entry +ℤ pos (2 ^ F / 2)) <ℤ (bits_of result +ℤ pos (2 ^ F))) }
     {
         self.wrapping_add(Self(1 << (F - 1))).floor()
     }
@@ -213,6 +218,11 @@ where
         ensures whole { IsIntegral F (bits_of result) }
         // For proofs.
         ensures exact { FitsBits 16 (bits_of self.entry +ℤ pos (2 ^ F - 1))
+            → (bits_of result ≡ ceiling_of F (bits_of self.entry))
+            × (bits_of self.entry ≤ℤ bits_of result)
+            × (bits_of result <ℤ (bits_of self.entry +ℤ pos (2 ^ F))) }
+        // For proofs.
+        ensures small { unsigned_abs (bits_of self.entry) ≤ 2 ^ (16 - 2)
             → (bits_of result ≡ ceiling_of F (bits_of self.entry))
             × (bits_of self.entry ≤ℤ bits_of result)
             × (bits_of result <ℤ (bits_of self.entry +ℤ pos (2 ^ F))) }

@@ -8,6 +8,6 @@ pub returns-clause-equal : goal.returns-clause-equal
 returns-clause-equal c =
     let by_store = rw (c.store.ensures, c.coordinates.ensures) at c.vary_advance-by_store.ensures.value in
     one_advance ufword_number (λ x y is. ap ufword_of is) c.args.instance.now.store.bytes.now
-    c.args.instance.now.coordinates.now c.args.set.outer c.args.set.inner c.args.advance c.vary-by_instance.result
+    c.args.instance.now.coordinates.now c.args.set.outer c.args.set.inner c.args.advance c.vary_advance-by_instance.result
     c.vary_advance-by_store.result (search (rules, calls)) (search (rules, calls)) (search (rules, calls))
-    (search (rules, calls)) c.vary-by_instance.ensures.value by_store
+    (search (rules, calls)) c.vary_advance-by_instance.ensures.value by_store

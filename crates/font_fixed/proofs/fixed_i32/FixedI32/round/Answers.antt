@@ -1,5 +1,5 @@
 use Rattle.std.proofs.Common.{rules, refl, w32}
-use Rattle.font_fixed.proofs.Rounds.{whole_is, nearest_kept}
+use Rattle.font_fixed.proofs.Rounds.{whole_is, nearest_kept, nearest_small}
 use Rattle.font_fixed.proofs.fixed_i32.FixedI32.round.Goals as goal
 
 pub returns-clause-nearest : goal.returns-clause-nearest
@@ -9,3 +9,7 @@ returns-clause-nearest g c =
 pub returns-clause-exact : goal.returns-clause-exact
 returns-clause-exact g c =
     nearest_kept w32 _ g.row.F _ _ _ refl (search rules) (search rules) (search rules) c.floor.ensures.floor
+
+pub returns-clause-small : goal.returns-clause-small
+returns-clause-small g c =
+    nearest_small w32 _ g.row.F _ _ _ refl (search rules) (search rules) (search rules) c.floor.ensures.floor

@@ -1,6 +1,6 @@
 -- @generated from crates/font_fixed/proofs/fixed_i32/FixedI32/ceil/Answers.antt by tools/erase
 use Rattle.std.proofs.Common.{rules, refl, lit<, w64}
-use Rattle.font_fixed.proofs.Ceilings.{rest_fits, ceiling_wraps, ceiling_fits, ceiling_kept}
+use Rattle.font_fixed.proofs.Ceilings.{rest_fits, ceiling_wraps, ceiling_fits, ceiling_kept, ceiling_small}
 use Rattle.font_fixed.proofs.fixed_i64.FixedI64.ceil.Goals as goal
 
 pub overflow_sub-wrapping_add : goal.overflow_sub-wrapping_add
@@ -17,3 +17,7 @@ returns-clause-value g c = ceiling_fits 64 g.row.F _ _ (lit< tt)
 pub returns-clause-exact : goal.returns-clause-exact
 returns-clause-exact g c =
     ceiling_kept w64 _ g.row.F _ _ _ refl (search rules) (search rules) c.floor.ensures.floor
+
+pub returns-clause-small : goal.returns-clause-small
+returns-clause-small g c =
+    ceiling_small w64 _ g.row.F _ _ _ refl (search rules) (search rules) c.floor.ensures.floor
