@@ -14,12 +14,23 @@ use Rattle.font_types.proofs.Parts.{part_calls, unit_calls, between_calls, lerp_
 use Rattle.font_types.proofs.{Counts.count_calls, Lines.line_calls, Ratios.ratio_calls}
 use Rattle.font_types.proofs.Lines.{line_calls}
 use Rattle.font_types.proofs.Narrowed.{exact_narrow_calls, exact_sum_is_integral, negation_is_integral}
+use Rattle.font_types.proofs.{Searches.long_search_calls, Searches.byte_search_calls}
 use Rattle.font_types.proofs.{Searches.search_calls, StoredBytes.stored_calls, Magnitudes.magnitude_calls}
 use Rattle.font_types.proofs.StoredBytes.{first_24_calls}
 use Rattle.font_types.proofs.{ArrayNumbers.array_number_calls, Below.below_calls, Writes.write_calls}
 use Rattle.font_types.proofs.Ties.{tie_calls}
 use Rattle.font_types.proofs.Fields.{field_calls, record_calls, other_record_calls, header_calls}
 use Rattle.font_types.proofs.Fields.{rest_calls, beyond_calls, second_calls, four_fields, four_parts}
+use Rattle.font_fixed.proofs.Orders.{kept_near, scaled_in_order, narrowed_in_order, rounded_in_order, ups_in_order}
+use Rattle.font_fixed.proofs.Orders.{multiples_in_order, moved_in_order, near-neg, product_of_opposite}
+use Rattle.font_fixed.proofs.Orders.{scaled_distance, scaled_back}
+use Rattle.font_fixed.proofs.Group.{wrap-add_comm, wrap-add_assoc, zero_is_neutral, opposite_is_inverse}
+use Rattle.font_fixed.proofs.Group.{floor_and_fract, fract_is_below_one}
+use Rattle.font_fixed.proofs.NumberLaws.{near_exact, rounded_exact, product_in_one_step, mul_div_exact, itself}
+use Rattle.font_fixed.proofs.NumberLaws.{mul_div_between, quotient_between, quotient_in_one_step}
+use Rattle.font_tags.proofs.TagLaws.{checked_good, validates_where_checked, parsed_again, printed_once}
+use Rattle.font_geom.proofs.RingCalls.{products_agree, images_agree, left_identity, right_identity}
+use Rattle.font_geom.proofs.RingMatrices.{matrix_product-matrix_product, image_of-matrix_product}
 pub use Rattle.font_base.proofs.ScalarCalls.{absent, nowhere, rises_by}
 pub use Rattle.font_base.proofs.Moved.{bytes_moved}
 pub use Rattle.font_base.specs.Wrap.Laws.{wrap_is, wrap_unique, wrap-fits}
@@ -126,6 +137,9 @@ pub ruleset firsts_24 = (first_24_calls)
 pub ruleset rests = (rest_calls)
 
 pub ruleset follows = (beyond_calls)
+
+-- for searches in arrays of `u32` or of `u8`, as `calls` and `tables` have them for `u16` and `GlyphId16`
+pub ruleset searches = (long_search_calls, byte_search_calls)
 
 -- for a record that is encoded and decoded, in place of `calls`
 pub ruleset records = (record_calls)

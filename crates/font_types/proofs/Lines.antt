@@ -1,11 +1,11 @@
 -- The value on the line through two points of widened 2.14 numbers, `a + (b - a).mul_div(x - p, q - p)`: one formula of
 -- the numbers themselves, and its bounds after it is narrowed again.
-use Rattle.std.proofs.Common.{◌≡◌, ◌≢◌, ◌∙◌, ap, arith, lit<, ℤ, pos, ◌*◌, ◌+ℤ◌, ◌-ℤ◌, ◌*ℤ◌, ◌≤ℤ◌, ◌<ℤ◌, unsigned_abs}
+use Rattle.std.proofs.Common.{◌≡◌, ◌≢◌, ◌∙◌, sym, ap, refl, arith, lit<, ℤ, pos, ◌*◌, ◌+ℤ◌, ◌-ℤ◌, ◌*ℤ◌, ◌≤ℤ◌, ◌<ℤ◌, unsigned_abs}
 use Rattle.std.proofs.Common.{w16, w32, SFits}
-use Rattle.std.proofs.lemmas.Int.{ints, by_lt_z}
+use Rattle.std.proofs.{lemmas.Int.ints, lemmas.Int.by_lt_z, Math.IntN.*ℤ_comm}
 use Rattle.font_base.specs.{Integers.product-times, Wrap.wrap}
 use Rattle.font_decimal.specs.Near.{near, up}
-use Rattle.font_decimal.proofs.Near.{up_is}
+use Rattle.font_decimal.proofs.Near.{up_is, up_gives}
 use Rattle.font_fixed.specs.Operations.{IsMulDiv, rounded_mul_div}
 use Rattle.font_fixed.proofs.{Calls.fits_16, Calls.fits_32, NarrowCalls.quarter_difference}
 use Rattle.font_types.proofs.{Parts.near_quarters, Parts.rising_share, Parts.falling_share, Ratios.as_mul_div}
@@ -85,4 +85,24 @@ module _ (a b p x q r : ℤ)
   pub wide_line_to : a ≤ℤ b → wrap 16 (up (wrap 32 ((a *ℤ pos 4) +ℤ r)) 4) ≤ℤ b
   wide_line_to order = (between order).1
 
-pub ruleset line_calls = (wide_line_is, wide_line_from, wide_line_to)
+-- ---- a sum of a whole number and of a product of a 2.14 number, which is widened: it is rounded as in 2.14. The goal
+-- has the term of the first part.
+
+up_fourth : (n : ℤ) → up (n *ℤ pos 4) 65536 ≡ up n 16384
+up_fourth n =
+    let nearest = up_is n 16384 (lit< tt) in
+    sym (up_gives (n *ℤ pos 4) 65536 (up n 16384) (lit< tt) (record {
+      low = omega (arith, ints, nearest.low);
+      high = omega (arith, ints, nearest.high);
+    }))
+
+pub up_widened : (a t n : ℤ) → (up ((a *ℤ pos 16384) +ℤ (t *ℤ n)) 16384 ≡ up ((a *ℤ pos 16384) +ℤ (t *ℤ n)) 16384)
+    × (up ((a *ℤ pos 65536) +ℤ ((t *ℤ pos 4) *ℤ n)) 65536 ≡ up ((a *ℤ pos 16384) +ℤ (t *ℤ n)) 16384)
+up_widened a t n =
+    let four : ((t *ℤ pos 4) *ℤ n) ≡ ((t *ℤ n) *ℤ pos 4) =
+    product-times t (pos 4) n ∙ ap (λ m. t *ℤ m) (*ℤ_comm (pos 4) n) ∙ sym (product-times t n (pos 4)) in
+    let same : ((a *ℤ pos 65536) +ℤ ((t *ℤ pos 4) *ℤ n)) ≡ (((a *ℤ pos 16384) +ℤ (t *ℤ n)) *ℤ pos 4) =
+    omega (arith, ints, four) in
+    (refl, ap (λ m. up m 65536) same ∙ up_fourth ((a *ℤ pos 16384) +ℤ (t *ℤ n)))
+
+pub ruleset line_calls = (wide_line_is, wide_line_from, wide_line_to, up_widened)

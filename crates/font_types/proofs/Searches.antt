@@ -5,7 +5,7 @@ use Rattle.std.specs.{Result.result_ok, Ordering.nat_cmp, declared.cmp.Ordering.
 use Rattle.font_base.specs.Bytes.{numeral, bytes_of}
 use Rattle.font_base.specs.Elements.{element, StoresOne, Rises, Splits}
 use Rattle.font_base.proofs.ScalarCalls.{array_calls, number_found, numeral_found, number_absent, IsSearchedWord}
-use Rattle.font_base.proofs.ScalarCalls.{word_numeral, word_absent}
+use Rattle.font_base.proofs.ScalarCalls.{word_numeral, word_absent, IsNumberSearched}
 use Rattle.font_ids.specs.{declared.glyph_id.GlyphId16.GlyphId16, GlyphId.glyph16_number}
 
 module _ (bytes : List ℕ) (n : ℕ) (key : GlyphId16) (result : Result ℕ ℕ) where
@@ -72,4 +72,74 @@ pub ruleset search_calls = (
   glyph_absent_none,
   word_numeral_some,
   word_absent_none,
+)
+
+-- the same for arrays of unsigned numbers of other sizes
+module _ (size : ℕ) (bytes : List ℕ) (n key : ℕ) (result : Result ℕ ℕ)
+    (searched : IsNumberSearched (λ (m : ℕ). m) size n key (element size bytes) result) where
+  size_numeral : IfOk result (λ i. (i < n) × (numeral (element size bytes i) ≡ key))
+  size_numeral = numeral_found (λ m. m) size n key (element size bytes) result searched
+
+  size_numeral_some : IfSome (result_ok result) (λ i. (i < n) × (numeral (element size bytes i) ≡ key))
+  size_numeral_some = found_some _ result size_numeral
+
+  size_absent : key < 256 ^ size
+      → ((i j : ℕ) → i ≤ j → j < n → numeral (element size bytes i) ≤ numeral (element size bytes j))
+      → IfErr result (λ _. (k : ℕ) → k < n → element size bytes k ≢ bytes_of size (pos key))
+  size_absent below sorted =
+      number_absent (λ m. m) size n key (element size bytes) key result refl below sorted searched
+
+  size_absent_none : key < 256 ^ size
+      → ((i j : ℕ) → i ≤ j → j < n → numeral (element size bytes i) ≤ numeral (element size bytes j))
+      → IfNone (result_ok result) ((k : ℕ) → k < n → element size bytes k ≢ bytes_of size (pos key))
+  size_absent_none below sorted = absent_none _ result (size_absent below sorted)
+
+module _ (bytes : List ℕ) (n key : ℕ) (result : Result ℕ ℕ)
+    (searched : IsNumberSearched (λ (m : ℕ). m) 1 n key (element 1 bytes) result) where
+  pub byte_numeral : IfOk result (λ i. (i < n) × (numeral (element 1 bytes i) ≡ key))
+  byte_numeral = size_numeral 1 bytes n key result searched
+
+  pub byte_numeral_some : IfSome (result_ok result) (λ i. (i < n) × (numeral (element 1 bytes i) ≡ key))
+  byte_numeral_some = size_numeral_some 1 bytes n key result searched
+
+  pub byte_absent : key < 256
+      → ((i j : ℕ) → i ≤ j → j < n → numeral (element 1 bytes i) ≤ numeral (element 1 bytes j))
+      → IfErr result (λ _. (k : ℕ) → k < n → element 1 bytes k ≢ bytes_of 1 (pos key))
+  byte_absent below sorted = size_absent 1 bytes n key result searched below sorted
+
+  pub byte_absent_none : key < 256
+      → ((i j : ℕ) → i ≤ j → j < n → numeral (element 1 bytes i) ≤ numeral (element 1 bytes j))
+      → IfNone (result_ok result) ((k : ℕ) → k < n → element 1 bytes k ≢ bytes_of 1 (pos key))
+  byte_absent_none below sorted = size_absent_none 1 bytes n key result searched below sorted
+
+module _ (bytes : List ℕ) (n key : ℕ) (result : Result ℕ ℕ)
+    (searched : IsNumberSearched (λ (m : ℕ). m) 4 n key (element 4 bytes) result) where
+  pub long_numeral : IfOk result (λ i. (i < n) × (numeral (element 4 bytes i) ≡ key))
+  long_numeral = size_numeral 4 bytes n key result searched
+
+  pub long_numeral_some : IfSome (result_ok result) (λ i. (i < n) × (numeral (element 4 bytes i) ≡ key))
+  long_numeral_some = size_numeral_some 4 bytes n key result searched
+
+  pub long_absent : key < 4294967296
+      → ((i j : ℕ) → i ≤ j → j < n → numeral (element 4 bytes i) ≤ numeral (element 4 bytes j))
+      → IfErr result (λ _. (k : ℕ) → k < n → element 4 bytes k ≢ bytes_of 4 (pos key))
+  long_absent below sorted = size_absent 4 bytes n key result searched below sorted
+
+  pub long_absent_none : key < 4294967296
+      → ((i j : ℕ) → i ≤ j → j < n → numeral (element 4 bytes i) ≤ numeral (element 4 bytes j))
+      → IfNone (result_ok result) ((k : ℕ) → k < n → element 4 bytes k ≢ bytes_of 4 (pos key))
+  long_absent_none below sorted = size_absent_none 4 bytes n key result searched below sorted
+
+pub ruleset long_search_calls = (
+  long_numeral,
+  long_numeral_some,
+  long_absent,
+  long_absent_none,
+)
+
+pub ruleset byte_search_calls = (
+  byte_numeral,
+  byte_numeral_some,
+  byte_absent,
+  byte_absent_none,
 )

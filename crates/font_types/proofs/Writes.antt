@@ -1,6 +1,7 @@
 -- The bytes of a table outside of a field that is written: those of other fields are as they were.
 use Rattle.std.proofs.Common.{◌≡◌, ◌∙◌, sym, ap, ℕ, ◌+◌, ◌-◌, ◌≤◌, List, take, drop, arith, refl}
 use Rattle.std.proofs.{lemmas.List.take-take, lemmas.List.drop-drop, lemmas.List.drop-take}
+use Rattle.std.proofs.lemmas.Slice.{drop-put_mid}
 
 dropped_on : (end m : ℕ) (xs : List ℕ) → end ≤ m → drop (m - end) (drop end xs) ≡ drop m xs
 dropped_on end m xs within = grind (arith, drop-drop)
@@ -31,4 +32,5 @@ module _ (end : ℕ) (old new kept : List ℕ) where
 pub rest_same : (end m : ℕ) (old new : List ℕ) → drop end new ≡ drop end old → end ≤ m → drop m new ≡ drop m old
 rest_same end m old new same within = rest_kept end old new (drop m old) m same within refl
 
-pub ruleset write_calls = (start_kept, field_kept_before, rest_kept, field_kept_after, rest_same)
+-- std's lemma: a part of any length that is written leaves what stands behind it
+pub ruleset write_calls = (start_kept, field_kept_before, rest_kept, field_kept_after, rest_same, drop-put_mid)
