@@ -12,6 +12,7 @@ use Rattle.font_geom.proofs.{Bounds.bound_calls, Scaled.scaled_calls, Scaled.pro
 use Rattle.font_types.proofs.SumCalls.{sum_calls_from, sum_calls_16, sum_calls_32, delta_rules}
 use Rattle.font_types.proofs.Parts.{part_calls, unit_calls, between_calls, lerp_calls}
 use Rattle.font_types.proofs.{Counts.count_calls, Lines.line_calls, Ratios.ratio_calls}
+use Rattle.font_types.proofs.Ratios.{order_ratio_calls}
 use Rattle.font_types.proofs.Lines.{line_calls}
 use Rattle.font_types.proofs.Narrowed.{exact_narrow_calls, exact_sum_is_integral, negation_is_integral}
 use Rattle.font_types.proofs.{Searches.long_search_calls, Searches.byte_search_calls}
@@ -105,11 +106,17 @@ pub ruleset calls = (
   good_prints_itself,
   compatible_calls,
   shortest_is,
+  -- counts of a loop
+  count_calls,
 )
 
 -- for the value of `a + (b - a) * t`, as one formula; of `(x - p) / (q - p)`; of `mul_div` by such a quotient, and of
 -- any `mul_div` by a number other than 0
 pub ruleset lerps = (lerp_calls, ratio_calls, mul_div_is)
+
+-- for `(x - p) / (q - p)` and `(q - x) / (q - p)` in a branch, by the two orders that its tests leave: `p <= x` and
+-- `x < q`, or `p < x` and `x <= q`
+pub ruleset ratios = (order_ratio_calls)
 
 -- for `IsIntegral` of the greater of two integers, of a negation, or of a sum with a constant or with halves
 pub ruleset integers = (integral_rules, negation_is_integral, calls_32)

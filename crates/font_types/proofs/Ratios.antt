@@ -158,6 +158,58 @@ module _ (p x q r : ℤ) (fits_p : SFits w16 p) (fits_x : SFits w16 x) (fits_q :
       falling_quotient_is p x q r (narrow_difference_fits q p fits_q fits_p) from to some
       (rw (part, whole_difference) (quotient_of_widened_differences q x q p r given fits_q fits_x fits_q fits_p some))
 
+-- the same quotients and their bounds, by the two orders that tests leave: x is before q, or behind p
+module _ (p x q r : ℤ) (fits : FitsBits 32 (q -ℤ p)) (from : p ≤ℤ x) (to : x ≤ℤ q) (some : p <ℤ q) where
+  rising_part : IsQuotient 32 16 (wrap 32 (x -ℤ p)) (wrap 32 (q -ℤ p)) r
+      → (r ≡ rounded_mul_div (x -ℤ p) (pos 65536) (q -ℤ p)) × (pos 0 ≤ℤ r) × (r ≤ℤ pos 65536)
+  rising_part given = (
+    rising_quotient_is p x q r fits from to some given,
+    rising_ratio_is_not_negative p x q r fits from to some given,
+    rising_ratio_is_at_most_one p x q r fits from to some given,
+  )
+
+  falling_part : IsQuotient 32 16 (wrap 32 (q -ℤ x)) (wrap 32 (q -ℤ p)) r
+      → (r ≡ rounded_mul_div (q -ℤ x) (pos 65536) (q -ℤ p)) × (pos 0 ≤ℤ r) × (r ≤ℤ pos 65536)
+  falling_part given = (
+    falling_quotient_is p x q r fits from to some given,
+    falling_ratio_is_not_negative p x q r fits from to some given,
+    falling_ratio_is_at_most_one p x q r fits from to some given,
+  )
+
+module _ (p x q r : ℤ) (fits : FitsBits 32 (q -ℤ p)) where
+  pub rising_part_before : p ≤ℤ x → x <ℤ q → IsQuotient 32 16 (wrap 32 (x -ℤ p)) (wrap 32 (q -ℤ p)) r
+      → (r ≡ rounded_mul_div (x -ℤ p) (pos 65536) (q -ℤ p)) × (pos 0 ≤ℤ r) × (r ≤ℤ pos 65536)
+  rising_part_before from to given =
+      rising_part p x q r fits from (omega (arith, ints, to)) (omega (arith, ints, from, to)) given
+
+  pub rising_part_behind : p <ℤ x → x ≤ℤ q → IsQuotient 32 16 (wrap 32 (x -ℤ p)) (wrap 32 (q -ℤ p)) r
+      → (r ≡ rounded_mul_div (x -ℤ p) (pos 65536) (q -ℤ p)) × (pos 0 ≤ℤ r) × (r ≤ℤ pos 65536)
+  rising_part_behind from to given =
+      rising_part p x q r fits (omega (arith, ints, from)) to (omega (arith, ints, from, to)) given
+
+  pub falling_part_before : p ≤ℤ x → x <ℤ q → IsQuotient 32 16 (wrap 32 (q -ℤ x)) (wrap 32 (q -ℤ p)) r
+      → (r ≡ rounded_mul_div (q -ℤ x) (pos 65536) (q -ℤ p)) × (pos 0 ≤ℤ r) × (r ≤ℤ pos 65536)
+  falling_part_before from to given =
+      falling_part p x q r fits from (omega (arith, ints, to)) (omega (arith, ints, from, to)) given
+
+  pub falling_part_behind : p <ℤ x → x ≤ℤ q → IsQuotient 32 16 (wrap 32 (q -ℤ x)) (wrap 32 (q -ℤ p)) r
+      → (r ≡ rounded_mul_div (q -ℤ x) (pos 65536) (q -ℤ p)) × (pos 0 ≤ℤ r) × (r ≤ℤ pos 65536)
+  falling_part_behind from to given =
+      falling_part p x q r fits (omega (arith, ints, from)) to (omega (arith, ints, from, to)) given
+
+module _ (p x q r : ℤ) (fits_p : SFits w16 p) (fits_x : SFits w16 x) (fits_q : SFits w16 q) where
+  pub rising_wide_part_before : p ≤ℤ x → x <ℤ q → IsQuotient 32 16 (wrap 32 ((x *ℤ pos 4) -ℤ (p *ℤ pos 4)))
+      (wrap 32 ((q *ℤ pos 4) -ℤ (p *ℤ pos 4))) r → r ≡ rounded_mul_div (x -ℤ p) (pos 65536) (q -ℤ p)
+  rising_wide_part_before from to given =
+      rising_wide_quotient_is p x q r fits_p fits_x fits_q from (omega (arith, ints, to)) (omega (arith, ints, from, to))
+      given
+
+  pub falling_wide_part_behind : p <ℤ x → x ≤ℤ q → IsQuotient 32 16 (wrap 32 ((q *ℤ pos 4) -ℤ (x *ℤ pos 4)))
+      (wrap 32 ((q *ℤ pos 4) -ℤ (p *ℤ pos 4))) r → r ≡ rounded_mul_div (q -ℤ x) (pos 65536) (q -ℤ p)
+  falling_wide_part_behind from to given =
+      falling_wide_quotient_is p x q r fits_p fits_x fits_q (omega (arith, ints, from)) to (omega (arith, ints, from, to))
+      given
+
 -- ---- a value on the line through two points
 
 module _ (a b x p q r : ℤ) (given : IsMulDiv 32 (wrap 32 (b -ℤ a)) (wrap 32 (x -ℤ p)) (wrap 32 (q -ℤ p)) r)
@@ -226,4 +278,13 @@ pub ruleset ratio_calls = (
   rising_line_to,
   falling_line_from,
   falling_line_to,
+)
+
+pub ruleset order_ratio_calls = (
+  rising_part_before,
+  rising_part_behind,
+  falling_part_before,
+  falling_part_behind,
+  rising_wide_part_before,
+  falling_wide_part_behind,
 )
