@@ -34,6 +34,7 @@ macro_rules! literal {
             /// use font_types_proved::Fixed;
             /// const HALF: Fixed = Fixed::lit(".5");
             /// ```
+            #[doc(alias = "from_f64")]
             #[must_use]
             #[inline]
             #[track_caller]

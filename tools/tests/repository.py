@@ -252,7 +252,8 @@ class Pages(unittest.TestCase):
     def test_aliases(self) -> None:
         """The guide's table has the names of other libraries that the search of the documentation
         finds, each beside what it finds."""
-        _, table = text("src/guide.md").split("| FreeType, fontTools | Here |\n|---|---|\n")
+        head = "| FreeType, fontTools, `font-types` | Here |\n|---|---|\n"
+        _, table = text("src/guide.md").split(head)
         rows = [row.split(" | ", 1) for row in table.split("\n\n")[0].splitlines()]
         cells = {name: here for there, here in rows for name in re.findall(r"`(\w+)`", there)}
         form = r'((?:#\[doc\(alias = "\w+"\)\]\s+)+)(?:#\[.*\]\s+)*pub [^({]*?(\w+)[<({]'

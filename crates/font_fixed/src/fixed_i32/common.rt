@@ -263,6 +263,7 @@ where
     /// Returns `Syntax` if the text is not a decimal, and `OutOfRange` if its nearest value is less
     /// than `MIN` or greater than `MAX`.
     // #[doc(alias = "strToFixed")]
+    // #[doc(alias = "from_f64")]
     pub fn from_decimal(text: &str) -> Result<Self, DecimalFault>
         ensures { ParsesFixedPoint w32 F bits_of text.now result }
     {
@@ -296,6 +297,7 @@ where
     /// assert_eq!(value.to_decimal().as_str(), "0.1");
     /// ```
     // #[doc(alias = "fixedToStr")]
+    // #[doc(alias = "to_f64")]
     pub fn to_decimal(self) -> Shortest
         ensures shortest { IsShortest (bits_of self.entry) F (shown result) }
         ensures text { shown result ≡ text_of self.entry }

@@ -378,6 +378,7 @@ where
     /// [Notation](crate::definitions): [`ParsesFixedPoint`], [`bits_of`]
     /// </details>
     #[doc(alias = "strToFixed")]
+    #[doc(alias = "from_f64")]
     #[inline]
     pub const fn from_decimal(text: &str) -> Result<Self, DecimalFault> {
         Self::from_decimal_bytes(text.as_bytes())
@@ -425,6 +426,7 @@ where
     /// [Notation](crate::definitions): [`IsShortest`], [`bits_of`], [`shown`], [`text_of`]
     /// </details>
     #[doc(alias = "fixedToStr")]
+    #[doc(alias = "to_f64")]
     #[must_use]
     #[inline]
     pub fn to_decimal(self) -> Shortest {
