@@ -7,9 +7,11 @@
 //! - `linter`: tags and the records of a table directory.
 //! - `dumper`: numbers in columns and lines, and JSON.
 //! - `words`: several numbers in a line, printed and parsed.
+//! - `evaluator`: an advance at settings, by the crate `variations`.
 #![tactic(auto, using(font_types::proofs::Callers::calls))]
 
 pub mod dumper;
+pub mod evaluator;
 pub mod linter;
 pub mod reader;
 pub mod scaler;
