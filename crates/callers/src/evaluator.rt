@@ -30,8 +30,10 @@ pub fn advance_at_settings(
     ensures value { ¬ IsNoVariation set.outer set.inner → IfSome result (λ varied.
         IsVaried (regions_of store.now.bytes.now) (subtable_of store.now.bytes.now set.outer)
         coordinates.new set.inner (ufword_number advance) (pos (ufword_number varied))) }
-    ensures none { IfNone result ((¬ ((length coordinates.old ≡ fvar_axis_count axes.entry.0.now.bytes.now)
-        × HaveCoordinates axes.entry.0.now.bytes.now (option_map (λ avar. avar.now) axes.entry.1.now.bytes)
+    ensures none { IfNone result ((¬ ((length coordinates.old
+        ≡ fvar_axis_count axes.entry.0.now.bytes.now)
+        × HaveCoordinates axes.entry.0.now.bytes.now
+        (option_map (λ avar. avar.now) axes.entry.1.now.bytes)
         × AreOfAxes axes.entry.0.now.bytes.now settings.now))
         ⊎ ((¬ HasData store.now.bytes.now set.outer set.inner)
         ⊎ HasNoVaried (regions_of store.now.bytes.now) (subtable_of store.now.bytes.now set.outer)
