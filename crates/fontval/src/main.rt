@@ -13,8 +13,8 @@ use std::process::ExitCode;
 #[cfg(test)]
 mod tests;
 
-const ARGUMENT: &str =
-    "fontval: takes no arguments. It reads lines from standard input: see docs/FONTVAL.md\n";
+const ARGUMENT: &str = "fontval: takes no arguments. It reads lines from standard input, such as \
+    `int24 fe1dc0`, and prints an answer to each: see docs/FONTVAL.md in its repository\n";
 
 // No clause can say what the standard streams read and wrote. If standard error fails, its text is
 // lost, and the status stays.
