@@ -18,6 +18,7 @@ use Rattle.font_types.proofs.Narrowed.{exact_narrow_calls, exact_sum_is_integral
 use Rattle.font_types.proofs.{Searches.long_search_calls, Searches.byte_search_calls}
 use Rattle.font_types.proofs.{Searches.search_calls, StoredBytes.stored_calls, Magnitudes.magnitude_calls}
 use Rattle.font_types.proofs.StoredBytes.{first_24_calls}
+use Rattle.std.proofs.lemmas.Slice.{drop-put_mid}
 use Rattle.font_types.proofs.{ArrayNumbers.array_number_calls, Below.below_calls, Writes.write_calls}
 use Rattle.font_types.proofs.Ties.{tie_calls}
 use Rattle.font_types.proofs.Fields.{field_calls, record_calls, other_record_calls, header_calls}
@@ -87,6 +88,8 @@ pub ruleset calls = (
   stored_calls,
   array_number_calls,
   field_calls,
+  -- what stands behind a part that is written
+  drop-put_mid,
   -- sums of loops
   sum_calls_from,
   sum_calls_16,
