@@ -9,8 +9,9 @@ import unittest
 from collections.abc import Iterator
 
 ROOT = pathlib.Path(__file__).resolve().parents[2]
-sys.path.append(str(ROOT / "tools"))
+sys.path += [str(ROOT / "tools"), str(ROOT / "tools/erase")]
 import version
+from contracts import HIDDEN
 from requirements import ATTRIBUTES, is_compiled
 
 
@@ -85,30 +86,68 @@ def words(text: str) -> set[str]:
 OF_KIT = r"\buse Rattle\.(?:std|hex|serde_json)\.specs\b[\w.]*(?:\.\{([^}]*)\}|(?: as |\.)(\w+);)"
 
 
+def inside(code: str, at: int) -> str:
+    """Returns what stands between the brace before a place and the one that closes it."""
+    depth, end = 1, at
+    while depth:
+        depth += {"{": 1, "}": -1}.get(code[end], 0)
+        end += 1
+    return code[at : end - 1]
+
+
 def clauses(code: str) -> str:
     """What the clauses of a Rattle source state, and what its calls give."""
-    found = []
-    for it in re.finditer(r"\b(?:requires|ensures|ghost \w+_gives)\b[^{}\n]*\{", code):
-        depth, end = 1, it.end()
-        while depth:
-            depth += {"{": 1, "}": -1}.get(code[end], 0)
-            end += 1
-        found.append(code[it.end() : end - 1])
-    return " ".join(found)
+    starts = re.finditer(r"\b(?:requires|ensures|ghost \w+_gives)\b[^{}\n]*\{", code)
+    return " ".join(inside(code, it.end()) for it in starts)
 
 
-def documented_clauses(code: str) -> int:
-    """How many clauses of functions with documentation are not marked as for proofs."""
-    count, is_documented, above, line_above = 0, False, "", ""
-    for line in map(str.strip, code.splitlines()):
-        if re.match(r"(?:pub(?:\(\w+\))? |const |unsafe )*fn ", line):
-            is_documented = above.startswith("///")
-        if line.startswith(("requires", "ensures")) and line_above != "// For proofs.":
-            count += is_documented
-        line_above = line
-        if not line.startswith(("#[", "// ")):
-            above = line
-    return count
+# A function, or a clause or a ghost item, after the comments and attributes above it.
+STATED = re.compile(
+    r"((?:^ *(?://|#\[).*\n)*)^ *(?:(?:pub(?:\(\w+\))? |const |unsafe )*fn "
+    r"|((?:requires|ensures|ghost)\b(?! use)[^{;\n]*\{))",
+    re.M,
+)
+# Ghost items that the documentation leaves out: constants, which Rust has, and proofs.
+LEFT_OUT = re.compile(rf"ghost (?:[A-Z_]+\b|(?:{'|'.join(HIDDEN)}) = )")
+
+
+def stated(code: str) -> list[str]:
+    """Returns the clauses of a source that its documentation has to show: of functions that have
+    documentation, those that are not marked as for proofs, and of others the ghost items."""
+    found, is_documented = [], False
+    for it in STATED.finditer(code):
+        above, start = it[1], it[2] or ""
+        if not start:
+            is_documented = "///" in above
+        elif start.startswith("ghost") or is_documented and "// For proofs." not in above:
+            if not LEFT_OUT.match(start):
+                found.append(squeezed(f"{start}{inside(code, it.end())}}}"))
+    return sorted(found, key=is_ghost)
+
+
+def documented(code: str) -> list[str]:
+    """Returns the clauses and definitions that a generated file shows."""
+    blocks = re.findall(r"/// ```text\n(.*?)/// ```", code, re.DOTALL)
+    lines = re.sub(r"(?m)^ *///(?: *(?://|--).*\n)?", "", "\n\n".join(blocks))
+    parts = re.split(r"\n(?= *(?:requires|ensures|ghost)\b)|\n\s*\n", lines)
+    found = [squeezed(it).rstrip(",;") for it in parts if it.strip()]
+    return sorted(found, key=is_ghost)
+
+
+def defined_in(code: str) -> Iterator[str]:
+    """Yields the paragraphs of a file of definitions, below the head of their module."""
+    head = ""
+    for part in re.split(r"\n\s*\n", re.sub("(?m)^ *--.*\n?|pub ", "", code)):
+        if found := re.match(r"module _ .*?where\n", part, re.DOTALL):
+            head, part = found[0], part[found.end() :]
+        elif not part.startswith(" "):
+            head = ""
+        yield squeezed(head + part)
+
+
+def is_ghost(clause: str) -> bool:
+    """The documentation of a trait has its ghost items first."""
+    return clause.startswith("ghost")
 
 
 def squeezed(text: str) -> str:
@@ -327,7 +366,7 @@ class Pages(unittest.TestCase):
 
     def test_pages_of_definitions(self) -> None:
         """Each definition that contracts and definitions of a package name has a page, or is on
-        one, with the arguments of its module."""
+        one."""
         defined = r"(?m)^ *(?:pub )?(?:abbrev|unfoldable|record) (?:pub )?(\w+)"
         crates = ("font_(?!c/|lines/)\\w+", "variations")
         for package, pattern in zip(GENERATED, crates):
@@ -340,29 +379,19 @@ class Pages(unittest.TestCase):
             # The name of an alias is that of a type of Rust, which has its page.
             pages |= set(re.findall(r"(?m)^pub type (\w+)", shown))
             self.assertFalse(names & words(re.sub(r"\w+\.\w+", "", clauses)) - pages, package)
-            for head in re.findall(r"(?m)^module _ [^\n]*", "\n".join(sources)):
-                self.assertIn(f"/// {head}\n", clauses)
 
     def test_shown_contracts(self) -> None:
-        """Clauses and definitions of the documentation are those of the source, and the clauses of
-        a file stand in its order, and are all of documented functions but those for proofs."""
-        specs = "".join(map(text, of("crates/", ".antt")))
-        parts = (
-            r"\n(?= *(?:requires|ensures|ghost|//))|(?<=where)\n(?= *(?:abbrev|record|unf))|\n\s*\n"
-        )
+        """The documentation shows each clause as its source has it, in its order, and no other; and
+        definitions as they are, below the head of their module."""
+        defined = {it for path in of("crates/", ".antt") for it in defined_in(text(path))}
         count = 0
         for path in of(GENERATED, ".rs"):
-            from_file = re.findall(r"^// @generated from (\S+\.rt)", text(path))
-            source = squeezed((text(*from_file) if from_file else specs).replace("pub ", ""))
-            at = 0
-            for block in re.findall(r"/// ```text\n(.*?)/// ```", text(path), re.DOTALL):
-                for part in re.split(parts, re.sub("(?m)^ *///", "", block)):
-                    is_clause = part.lstrip().startswith(("requires", "ensures"))
-                    found = source.find(squeezed(part), at if is_clause else 0)
-                    self.assertGreaterEqual(found, 0, f"{path}: not in the source:\n{part}")
-                    at, count = found if is_clause else at, count + 1
-            shown = len(re.findall(r"(?m)^ */// (?:requires|ensures)\b", text(path)))
-            self.assertEqual(shown, sum(map(documented_clauses, map(text, from_file))), path)
+            shown = documented(text(path))
+            if source := re.findall(r"^// @generated from (\S+\.rt)", text(path)):
+                self.assertEqual(shown, stated(text(*source)), path)
+            else:
+                self.assertEqual(set(shown) - defined, set(), path)
+            count += len(shown)
         self.assertGreater(count, 1000)
 
 
