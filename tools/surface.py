@@ -11,10 +11,15 @@ from tempfile import TemporaryDirectory
 from typing import Any, NamedTuple
 
 
+# Each with the path of its item.
+Clauses = set[tuple[str, str]]
+
+
 class Surface(NamedTuple):
     """`kept` has each line, with what it is of and its own name. `closed` has those beside which
     their owner gets no other, because users match, write out or implement all of them. `clauses`
-    are those of contracts, by their item. One more of an item of `asked` asks for more."""
+    are those of contracts, by their item, and definitions. If an item of `asked` has one more, this
+    asks for more of users, who write it out or implement it."""
 
     kept: dict[str, tuple[str, str]]
     closed: set[tuple[str, str]]
@@ -46,14 +51,49 @@ PLAIN |= {"resolved_path", "struct_field", "trait", "trait_bound", "type"}
 # A trait that derives write, and no user can name.
 UNNAMED = "core::clone::TrivialClone"
 CLAUSE = re.compile(r"^(?=(?:ensures|requires|ghost|decreases)\b)", re.M)
+# What has the definitions; and a definition below the head of its module, of a type, by a name.
+DEFINITIONS = "definitions"
+DEFINED = re.compile(
+    r"(?:module _ .*? where )?(?:abbrev|unfoldable|record) ((\w+).*?) (?:\2|where) "
+)
+
+
+def plain(clause: str) -> str:
+    """Returns a clause in one line, without its name and its comments."""
+    words = " ".join(re.sub(r"^ *//.*", "", clause, flags=re.M).split())
+    return re.sub(r"^(ensures|requires) \w+ \{", r"\1 {", words)
 
 
 def clauses(docs: str | None) -> Iterator[str]:
-    """Yields the clauses of a contract, without their names, and definitions."""
+    """Yields the clauses of a contract."""
     for block in (docs or "").split("```text\n")[1:]:
-        code = re.sub(r"^ *//.*\n", "", block.split("```")[0], flags=re.M)
-        words = (" ".join(it.split()) for it in CLAUSE.split(code))
-        yield from (re.sub(r"^(ensures|requires) \w+ \{", r"\1 {", it) for it in words if it)
+        yield from filter(None, map(plain, CLAUSE.split(block.split("```")[0])))
+
+
+def paragraphs(code: str) -> Iterator[str]:
+    """Yields those of a file of definitions, each below the head of its module."""
+    head = ""
+    for part in re.split(r"\n\s*\n", re.sub("(?m)^ *--.*\n?|pub ", "", code)):
+        if found := re.match(r"module _ .*?where\n", part, re.DOTALL):
+            head, part = found[0], part[found.end() :]
+        elif not part.startswith(" "):
+            head = ""
+        yield head + part
+
+
+def definitions(code: str) -> Iterator[str]:
+    """Yields those of a file, each in one line. An import can give a definition another name."""
+    for name, own in re.findall(r"(\w+) as (\w+)", "".join(re.findall("(?m)^use .*", code))):
+        code = re.sub(rf"\b{own}\b", name, code)
+    yield from filter(DEFINED.match, map(plain, paragraphs(code)))
+
+
+def subject(path: str, clause: str) -> str:
+    """Returns the name of what has a clause: a function, a type, a trait or a definition."""
+    if path == DEFINITIONS and (found := DEFINED.match(clause)):
+        return found[2]
+    trait, _, implemented = path.partition(" for ")
+    return (trait.split("<")[0] if implemented else path).rsplit("::", 1)[-1]
 
 
 class Walk:
@@ -67,7 +107,7 @@ class Walk:
             self.item(path, self.index[str(id)], path)
         for it in self.inside(map(int, self.index)):
             if "impl" in it["inner"]:
-                self.implementation(it["inner"]["impl"])
+                self.implementation(it)
 
     def inner(self, id: int) -> Any:
         (inner,) = self.index[str(id)]["inner"].values()
@@ -133,19 +173,27 @@ class Walk:
                 return ""
         return str(it)
 
+    def state(self, path: str, item: Any) -> None:
+        """Adds the clauses of an item, with definitions by their own names."""
+        self.found.clauses[path, ""] += 0
+        for clause in clauses(item["docs"]):
+            for name, id in item["links"].items():
+                own, name = self.place(id).rsplit("::", 1)[-1], re.sub("`|mod@", "", name)
+                if re.fullmatch(r"\w+", name) and own.lower() not in ("", name.lower()):
+                    clause = re.sub(rf"\b{name}\b", own, clause)
+            self.found.clauses[path, clause] += 1
+
     def add(self, line: str, place: str, name: str, owner: str = "") -> None:
         self.found.kept[line] = place, name.rsplit("::", 1)[-1]
         self.found.closed.update([(owner, line)] if owner else [])
 
-    def item(self, path: str, item: Any, place: str, owner: str = "") -> None:
-        """Adds an item. `owner` is what it is a part of, if no such part can be added."""
+    def item(self, path: str, item: Any, place: str, owner: str = "", told: str = "") -> None:
+        """Adds an item. `owner` is what it is a part of, if no such part can be added. `told`
+        is the path of what has its clauses, if that is another."""
         ((kind, inner),) = item["inner"].items()
-        is_page = path.split("::")[0] in PAGES
-        # A definition may move to another module.
-        told = path.rsplit("::", 1)[-1] if is_page else path
-        self.found.clauses.update((told, it) for it in clauses(item["docs"]))
-        if kind == "module" or is_page:
+        if kind == "module" or path.split("::")[0] in PAGES:
             return
+        self.state(told or path, item)
         more = "".join(
             f" {it}" for it in item["attrs"] if re.search("non_exhaustive|repr", str(it))
         )
@@ -200,11 +248,13 @@ class Walk:
         ids, hides = (inner, None in inner) if form == "tuple" else inner.values()
         if not hides:
             self.add(f"{path} has no other fields, {form}", place, path, path)
+            self.found.asked.add(path)
         for it in self.inside(ids):
             line = f"{path}.{it['name']}: {self.text(it['inner']['struct_field'])}"
             self.add(line, place, it["name"], "" if hides else path)
 
-    def implementation(self, inner: Any) -> None:
+    def implementation(self, item: Any) -> None:
+        inner = item["inner"]["impl"]
         if inner["is_negative"] or inner["blanket_impl"]:
             return
         of, generics, trait = (self.text(inner[it]) for it in ("for", "generics", "trait"))
@@ -221,12 +271,13 @@ class Walk:
             is_open = "generic" in every or any(not re.search(rf"\b{it}\b", of) for it in free)
             place = trait if "generic" in every else place
             self.add(head, place, trait.split("<")[0], "every type" if is_open else "")
+        named = f"{trait} for {of}" if trait else of
+        self.state(named, item)
         for it in self.inside(inner["items"]):
             if trait and "function" in it["inner"]:
-                path = f"{head}::{it['name']}"
-                self.found.clauses.update((path, clause) for clause in clauses(it["docs"]))
+                self.state(f"{named}::{it['name']}", it)
             else:
-                self.item(f"{head}::{it['name']}", it, place)
+                self.item(f"{head}::{it['name']}", it, place, told=f"{named}::{it['name']}")
 
 
 # A record of a user, of which the macro of the library writes the impls.
@@ -241,7 +292,17 @@ path = "lib.rs"
 font-types-proved = {{ path = "{}" }}
 [workspace]
 """
+UNKNOWN = """tools/surface.py does not know this form of what rustdoc says, version {}. The Rust that
+docs/VERDICTS.md names has a form that it knows; for another, see "Use a new rustc" in CONTRIBUTING.md."""
 RECORD = "font_types_proved::record! { pub struct Record { pub a: u16, b: [u8; 4] } }"
+
+
+def walked(folder: Path, target: Path, known: dict[str, str] | None = None) -> Walk:
+    shown = documented(folder, target)
+    try:
+        return Walk(shown, known)
+    except (AttributeError, IndexError, KeyError, TypeError, ValueError) as fault:
+        raise AssertionError(UNKNOWN.format(shown.get("format_version"))) from fault
 
 
 def of_package(folder: Path, checked: bool = True) -> Surface:
@@ -249,12 +310,12 @@ def of_package(folder: Path, checked: bool = True) -> Surface:
     writes."""
     with TemporaryDirectory() as name:
         work = Path(name)
-        walk = Walk(documented(folder, work / "target"))
+        walk = walked(folder, work / "target")
         if checked and "record" in walk.names.values():
             (work / "Cargo.toml").write_text(USER.format(folder))
             (work / "lib.rs").write_text(RECORD)
             known = {walk.place(id): name for id, name in walk.names.items()}
-            for line, it in Walk(documented(work, work / "target"), known).found.kept.items():
+            for line, it in walked(work, work / "target", known).found.kept.items():
                 walk.add(line, *it, "record")
     return walk.found
 
@@ -275,11 +336,23 @@ def added(old: Surface, new: Surface) -> set[str]:
     return {name if place in places else place.rsplit("::", 1)[-1] for place, name in found}
 
 
-def changed(old: Surface, new: Surface) -> set[str]:
-    """Returns the names of what may promise less, or ask for more: a clause or a definition is
-    gone, or what a caller or an implementation has to show is new."""
-    before = {path for path, _ in old.clauses}
-    more = {path for path, it in new.clauses - old.clauses if it.startswith("requires")}
-    more |= {path for path, _ in new.clauses - old.clauses if path in new.asked}
-    paths = {path for path, _ in old.clauses - new.clauses} | (more & before)
-    return {it.rsplit("::", 1)[-1] for it in paths}
+def heads(of: Surface) -> dict[str, str]:
+    """Returns the name and the type of each definition, by its text."""
+    found = ((it, DEFINED.match(it)) for path, it in of.clauses if path == DEFINITIONS)
+    return {it: name[1] for it, name in found if name}
+
+
+def changed(old: Surface, new: Surface) -> tuple[Clauses, Clauses]:
+    """Returns the clauses and definitions that are gone, and those that are new and ask for more, or
+    give a name and its type a second meaning. Who calls a function shows what it requires, and who
+    implements a trait or writes out a struct shows all."""
+    paths, known, named = {path for path, _ in old.clauses}, heads(old).values(), heads(new)
+    lost, more = set(), set()
+    for path, clause in old.clauses - new.clauses:
+        if path in old.asked or not clause.startswith("requires"):
+            lost.add((path, clause))
+    for path, clause in new.clauses - old.clauses:
+        asks = path in paths and (path in new.asked or clause.startswith("requires"))
+        if asks or path == DEFINITIONS and named[clause] in known:
+            more.add((path, clause))
+    return lost, more

@@ -1,7 +1,10 @@
-"""From 1.0 on, nothing is gone that a release with the same first number has: no name of Rust, no
-declaration of C, and no answer of `fontval`. CHANGELOG names what users of Rust can name since the
-last release, and what has another contract. `python3 tools/tests/api.py COMMIT` prints what differs
-from a commit.
+"""From 1.0 on, nothing is gone that the last release has, if it has the same first number: no name of
+Rust, no clause, no definition of an answer of `fontval`, no such answer, and no declaration of C.
+The last release was compared so with the one before it, and has all that this one had. CHANGELOG
+names what users of Rust can name since then, and has each clause that has other words now.
+
+`python3 tools/tests/api.py` prints what users can name, with contracts, and `python3
+tools/tests/api.py COMMIT` what differs from a commit.
 """
 
 import re
@@ -10,7 +13,7 @@ import subprocess
 import sys
 import unittest
 from collections import Counter
-from collections.abc import Callable, Iterable
+from collections.abc import Callable, Iterable, Iterator
 from functools import cache
 from pathlib import Path
 from tempfile import TemporaryDirectory
@@ -22,27 +25,46 @@ import surface  # noqa: E402
 import version  # noqa: E402
 from surface import Surface  # noqa: E402
 
-# What the packages of Rust are made of, and definitions of what `fontval` answers.
-FILES = ["Cargo.toml", "Cargo.lock", "src", "docs", "variations", "crates/font_lines/specs"]
+# What the packages of Rust are made of, and definitions.
+FILES = ["Cargo.toml", "Cargo.lock", "src", "docs", "variations", "crates/*/specs/*.antt"]
 PACKAGES = [".", "variations"]
-# What threads may do with a type, and what follows a panic.
-OF_THREADS = ["Send", "Sync", "Unpin", "UnwindSafe", "RefUnwindSafe"]
-DEFINITION = re.compile(
-    r"^(?:pub )?(?:abbrev|unfoldable|record) (?:pub )?(\w+).*?(?=^$|\Z)", re.M | re.S
-)
+# In CHANGELOG, words that changed and mean the same: of which item, why, and both.
+REWORDED = re.compile(r"^`([^`\n]+)`: ((?:.+\n)+)\n```diff\n((?:[-+].*\n)+)```$", re.M)
 
 
-def stated(tree: Path) -> Counter[tuple[str, str]]:
-    """Returns the definitions of what `fontval` answers, which no package shows."""
-    files = sorted((tree / FILES[-1]).rglob("*.antt"))
-    text = "\n".join(re.sub(" *--.*", "", it.read_text()) for it in files)
-    return Counter((it[1], " ".join(it[0].split())) for it in DEFINITION.finditer(text))
+def stated(tree: Path, package: str) -> Iterator[str]:
+    """Yields the definitions of a package, and of what `fontval` answers."""
+    crates = re.findall(r'"/crates/(\w+)"', (tree / "Cargo.toml").read_text())
+    for crate in [*crates, "font_lines"] if package == "." else [package]:
+        for path in (tree / f"crates/{crate}/specs").glob("*.antt"):
+            yield from surface.definitions(path.read_text())
+
+
+def reworded(page: str) -> Iterator[tuple[str, str, str]]:
+    """Yields, of each rewording, whose words changed, the old ones and the new ones."""
+    for path, _, lines in REWORDED.findall(page):
+        old, new = ("\n".join(re.findall(rf"^[{it}](.*)", lines, re.M)) for it in "-+")
+        yield path, surface.plain(old), surface.plain(new)
+
+
+def weaker(old: Surface, new: Surface, page: str) -> list[str]:
+    """Returns what promises less, or asks for more, than it did, but for the rewordings of a page,
+    and each of these that is none."""
+    lost, more = surface.changed(old, new)
+    wrong = []
+    for path, before, now in reworded(page):
+        if (path, before) in old.clauses - new.clauses and (path, now) in new.clauses - old.clauses:
+            lost.discard((path, before))
+            more.discard((path, now))
+        else:
+            wrong.append(f"no rewording: {path}: {before}")
+    wrong += [f"gone: {path}: {it}" for path, it in sorted(lost)]
+    return wrong + [f"new: {path}: {it}" for path, it in sorted(more)]
 
 
 def of_tree(tree: Path, package: str, checked: bool = True) -> Surface:
     found = surface.of_package((tree / package).resolve(), checked)
-    if package == ".":
-        found.clauses.update(stated(tree))
+    found.clauses.update((surface.DEFINITIONS, it) for it in stated(tree, package))
     return found
 
 
@@ -109,13 +131,31 @@ def joined(files: Iterable[bytes]) -> str:
 
 def git(commit: str, *command: str) -> bytes:
     found = subprocess.run(["git", *command], cwd=ROOT, capture_output=True)
-    needs = "a shallow clone lacks this commit of a release: git fetch --unshallow"
-    assert found.returncode == 0, f"{commit}: {needs}"
+    if found.returncode != 0:
+        needs = "a clone with the commits of releases; in a shallow one, run git fetch --unshallow"
+        raise AssertionError(f"{commit}: {found.stderr.decode()}This needs {needs}.")
     return found.stdout
 
 
 def of_release(commit: str, path: str) -> bytes:
     return git(commit, "show", f"{commit}:{path}")
+
+
+def last_release() -> tuple[str, str]:
+    """Returns the commit of the last release, and what CHANGELOG says since then."""
+    page = (ROOT / "CHANGELOG.md").read_text()
+    releases, commits = zip(*re.findall(r"^\| (\d+\.\S+) \| `(\w+)` \|", page, re.M))
+    # The newest heading is of what follows the last release.
+    _, *earlier = re.findall(r"^## (\S+)", page, re.M)
+    assert [*releases] == earlier[: len(releases)], "CHANGELOG.md lacks the row of a release"
+    return commits[0], re.split(r"\n## ", page)[1]
+
+
+def is_free(folder: str, commit: str) -> bool:
+    """Returns whether what is in a folder may lose names: below 1.0, or with a new first number."""
+    manifest = of_release(commit, f"./{folder}/Cargo.toml").decode()
+    first = version.current(folder).split(".")[0]
+    return first == "0" or first != version.of(manifest).split(".")[0]
 
 
 class Api(unittest.TestCase):
@@ -133,61 +173,43 @@ class Api(unittest.TestCase):
             missing = [it for it in proved.splitlines() if f"\nof: {it}\n" not in verdicts]
             self.assertEqual(missing, [], f"{commit} has the verdicts of other files")
 
-    def test_nothing_of_a_release_is_gone(self) -> None:
-        page = (ROOT / "CHANGELOG.md").read_text()
-        releases, commits = zip(*re.findall(r"^\| (\d+\.\S+) \| `(\w+)` \|", page, re.M))
-        # The newest heading is of what follows the last release.
-        _, *earlier = re.findall(r"^## (\S+)", page, re.M)
-        self.assertEqual([*releases], earlier[: len(releases)], "the row of a release is missing")
+    def test_nothing_of_the_last_release_is_gone(self) -> None:
+        commit, _ = last_release()
         for folder, lasting, paths in LASTING:
-            first = version.current(folder).split(".")[0]
-            for commit in commits if first != "0" else ():
-                manifest = of_release(commit, f"./{folder}/Cargo.toml").decode()
-                if version.of(manifest).split(".")[0] == first:
-                    old = joined(of_release(commit, path) for path in paths)
-                    new = joined((ROOT / path).read_bytes() for path in paths)
-                    self.assertEqual(gone(lasting, old, new), [], f"of {commit}")
+            if not is_free(folder, commit):
+                old = joined(of_release(commit, path) for path in paths)
+                new = joined((ROOT / path).read_bytes() for path in paths)
+                self.assertEqual(gone(lasting, old, new), [], f"of {commit}")
 
     def test_nothing_of_rust_is_gone(self) -> None:
-        """Since the newest release, which was compared with the one before it. What a package below
-        1.0 loses, or one with another first number, is named in CHANGELOG, as all that is new."""
-        page = (ROOT / "CHANGELOG.md").read_text()
-        commit = re.findall(r"^\| \d+\.\S+ \| `(\w+)` \|", page, re.M)[0]
-        since = re.split(r"\n## ", page)[1]
+        """What a package below 1.0 loses, or one with another first number, is named in CHANGELOG,
+        as all that is new."""
+        commit, since = last_release()
         told = set(re.findall(r"\w+", " ".join(since.split("`")[1::2])))
         for package in PACKAGES:
             old, new = of_commit(commit, package), current(package)
             for of in (old, new):
                 self.assertGreater(min(len(of.kept), of.clauses.total()), 200)
-            manifest = of_release(commit, f"./{package}/Cargo.toml").decode()
-            first = version.current(package).split(".")[0]
-            lost = surface.gone(old, new)
-            if first == "0" or first != version.of(manifest).split(".")[0]:
+            lost, names = surface.gone(old, new), surface.added(old, new)
+            if is_free(package, commit):
                 kept = new.kept | old.kept
-                lost = [it for it in lost if kept[it.removeprefix("added: ")][1] not in told]
-            self.assertEqual(lost, [], f"of {commit}")
-            names = surface.added(old, new) | surface.changed(old, new)
+                names |= {kept[it.removeprefix("added: ")][1] for it in lost}
+                names |= {surface.subject(*it) for of in surface.changed(old, new) for it in of}
+            else:
+                self.assertEqual(lost, [], f"of {commit}")
+                wrong = weaker(old, new, since)
+                self.assertEqual(wrong, [], "\n".join(["see CONTRIBUTING.md on words", *wrong]))
             self.assertEqual(sorted(names - told), [], f"of {package}, not named in CHANGELOG")
-
-    def test_threads(self) -> None:
-        for package in PACKAGES:
-            kept = current(package).kept
-            traits: dict[str, set[str]] = {}
-            for line, (place, name) in kept.items():
-                traits.setdefault(place, set()).update([name] * line.startswith("impl"))
-            types = [kept[it][0] for it in kept if it.startswith(("struct", "enum"))]
-            self.assertGreater(len(types), 10)
-            for of in types:
-                self.assertLessEqual(set(OF_THREADS), traits[of], of)
 
     def planted(self, *edits: tuple[str, str, str], checked: bool) -> Surface:
         with TemporaryDirectory() as name:
-            for it in FILES:
-                copied = Path(name, it)
-                if (ROOT / it).is_dir():
-                    shutil.copytree(ROOT / it, copied, ignore=shutil.ignore_patterns("target"))
+            for source in (path for it in FILES for path in ROOT.glob(it)):
+                copied = Path(name) / source.relative_to(ROOT)
+                copied.parent.mkdir(parents=True, exist_ok=True)
+                if source.is_dir():
+                    shutil.copytree(source, copied, ignore=shutil.ignore_patterns("target"))
                 else:
-                    shutil.copy(ROOT / it, copied)
+                    shutil.copy(source, copied)
             for path, old, new in edits:
                 file = Path(name, path)
                 self.assertIn(old, file.read_text())
@@ -198,7 +220,8 @@ class Api(unittest.TestCase):
         """Of planted changes."""
         old, of = current("."), "src/generated"
         traits, scalar = "src/traits.rs", f"{of}/font_base/raw.rs"
-        scale, words = f"{of}/font_geom/scale.rs", "crates/font_lines/specs/Command.antt"
+        scale, decimals = f"{of}/font_geom/scale.rs", "crates/font_decimal/specs/Grammar.antt"
+        words = "crates/font_lines/specs/Command.antt"
         pad, offset = f"{of}/font_decimal/padding.rs", f"{of}/font_ids/offset.rs"
         fused, exact = (f"impl {it}Iterator for Predefined {{}}" for it in ("Fused", "ExactSize"))
         of_any = "impl<T: Scalar> crate::FixedSize for &mut T { const RAW_BYTE_LEN: usize = 0; }"
@@ -209,6 +232,10 @@ class Api(unittest.TestCase):
         more = "    /// ensures more { result ≡ result }\n"
         law = "/// ghost is_scalar: { Self → Bool };\n"
         read = "    /// ensures value { IfSome result (λ v. IsTrue (is_scalar v)) }\n"
+        numbers, sum = (
+            f"{of}/font_fixed/fixed_i32/common.rs",
+            "bits_of x +ℤ bits_of y) (bits_of sum)",
+        )
         array, rest = f"{of}/font_base/array.rs", "rest: Iter<'a, T::Raw>,"
         wrong = self.planted(
             (f"{of}/font_types/mod.rs", ", vary}", "}"),
@@ -222,10 +249,16 @@ class Api(unittest.TestCase):
             (offset, "NULL", "NONE"),
             (array, rest, "rest: (&'a T::Raw, *const T),"),
             (scale, factor, ""),
+            (numbers, sum, sum.replace("+ℤ", "-ℤ")),
+            (
+                f"{of}/font_tags/tag.rs",
+                "four_spaces, tag_bytes",
+                "tag_of as four_spaces, tag_bytes",
+            ),
             (scale, "    pub const fn new(", "    #[cfg(doc)]\n    pub const fn new("),
             (scalar, law, f"{law}/// ghost more: {{ (a : Self) → a ≡ a }};\n"),
             (scalar, read, read + more),
-            (f"{of}/definitions.rs", "/// record Decimal (text", "/// record Decimal (words"),
+            (decimals, "pub record Decimal (text", "pub record Decimal (words"),
             (words, "only_word (word ∷ [])", "only_word (word ∷ _)"),
             checked=False,
         )
@@ -234,8 +267,10 @@ class Api(unittest.TestCase):
         told = "Extend FixedSize FusedIterator IDENTITY MAX_TEXT_LEN NONE NULL OffsetValue Other "
         told += "Pad RefUnwindSafe Send Sync UnwindSafe as_secs fill lit new vary"
         self.assertEqual(sorted(names), told.split())
-        told = "Decimal OffsetValue Scalar from_factor new only_word read read_at take_from vary"
-        self.assertEqual(sorted(surface.changed(old, wrong)), told.split())
+        told = "Add AddAssign Decimal Default OffsetValue Scalar from_factor new only_word read "
+        told += "read_at take_from vary"
+        names = {surface.subject(*it) for it in set().union(*surface.changed(old, wrong))}
+        self.assertEqual(sorted(names), told.split())
         hashed = "impl Hash for crate::Pad { fn hash<H: Hasher>(&self, _: &mut H) {} }"
         default = "impl Default for crate::Align { fn default() -> Self { Self::Left } }"
         dropped = "        impl Drop for $Name { fn drop(&mut self) {} }\n\n"
@@ -252,7 +287,7 @@ class Api(unittest.TestCase):
             checked=True,
         )
         self.assertEqual(surface.gone(old, right), ["added: impl core::ops::drop::Drop for Record"])
-        self.assertEqual(surface.changed(old, right), set())
+        self.assertEqual(surface.changed(old, right), (set(), set()))
         self.assertEqual(surface.added(old, right), {"Default", "Drop", "is_empty"})
 
     def test_lines_and_declarations(self) -> None:
@@ -285,8 +320,14 @@ class Api(unittest.TestCase):
             self.assertEqual(exchangeable({line: given}), [line])
 
 
+def printed(of: Surface) -> Counter[str]:
+    clauses = {f"{path}: {it}": n for (path, it), n in of.clauses.items() if it}
+    return Counter(clauses) + Counter(of.kept.keys())
+
+
 if __name__ == "__main__":
     for package in PACKAGES:
-        old, new = of_commit(sys.argv[1], package), current(package)
-        print(*(f"- {it}" for it in old.kept if it not in new.kept), sep="\n")
-        print(*(f"+ {it}" for it in new.kept if it not in old.kept), sep="\n")
+        new = printed(current(package))
+        old = printed(of_commit(sys.argv[1], package)) if sys.argv[1:] else Counter()
+        for sign, of in ("- ", old - new), ("+ " * bool(old), new - old):
+            print("".join(f"{sign}{it}\n" for it in sorted(of.elements())), end="")

@@ -13,6 +13,7 @@ sys.path += [str(ROOT / "tools"), str(ROOT / "tools/erase")]
 import version
 from contracts import HIDDEN
 from requirements import ATTRIBUTES, is_compiled
+from surface import paragraphs
 
 
 def run(*command: str) -> list[str]:
@@ -132,17 +133,6 @@ def documented(code: str) -> list[str]:
     parts = re.split(r"\n(?= *(?:requires|ensures|ghost)\b)|\n\s*\n", lines)
     found = [squeezed(it).rstrip(",;") for it in parts if it.strip()]
     return sorted(found, key=is_ghost)
-
-
-def defined_in(code: str) -> Iterator[str]:
-    """Yields the paragraphs of a file of definitions, below the head of their module."""
-    head = ""
-    for part in re.split(r"\n\s*\n", re.sub("(?m)^ *--.*\n?|pub ", "", code)):
-        if found := re.match(r"module _ .*?where\n", part, re.DOTALL):
-            head, part = found[0], part[found.end() :]
-        elif not part.startswith(" "):
-            head = ""
-        yield squeezed(head + part)
 
 
 def is_ghost(clause: str) -> bool:
@@ -383,7 +373,8 @@ class Pages(unittest.TestCase):
     def test_shown_contracts(self) -> None:
         """The documentation shows each clause as its source has it, in its order, and no other; and
         definitions as they are, below the head of their module."""
-        defined = {it for path in of("crates/", ".antt") for it in defined_in(text(path))}
+        specs = map(text, of("crates/", ".antt"))
+        defined = {squeezed(it) for code in specs for it in paragraphs(code)}
         count = 0
         for path in of(GENERATED, ".rs"):
             shown = documented(text(path))
