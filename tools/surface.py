@@ -48,8 +48,9 @@ APART = {"id", "items", "impls", "implementations", "variants", "provided_trait_
 # What a line has without its key.
 PLAIN = {"bound_predicate", "borrowed_ref", "generic", "kind", "lifetime", "name", "primitive"}
 PLAIN |= {"resolved_path", "struct_field", "trait", "trait_bound", "type"}
-# A trait that derives write, and no user can name.
+# Traits that derives write, and no user can name. Matches need the second.
 UNNAMED = "core::clone::TrivialClone"
+OF_MATCHES = "StructuralPartialEq"
 CLAUSE = re.compile(r"^(?=(?:ensures|requires|ghost|decreases)\b)", re.M)
 # What has the definitions; and a definition below the head of its module, of a type, by a name.
 DEFINITIONS = "definitions"
@@ -292,8 +293,8 @@ path = "lib.rs"
 font-types-proved = {{ path = "{}" }}
 [workspace]
 """
-UNKNOWN = """tools/surface.py does not know this form of what rustdoc says, version {}. The Rust that
-docs/VERDICTS.md names has a form that it knows; for another, see "Use a new rustc" in CONTRIBUTING.md."""
+UNKNOWN = """tools/surface.py does not know this form of what rustdoc says, version {}.
+It knows that of the Rust in docs/VERDICTS.md. See "Use a new rustc" in CONTRIBUTING.md."""
 RECORD = "font_types_proved::record! { pub struct Record { pub a: u16, b: [u8; 4] } }"
 
 
@@ -305,13 +306,12 @@ def walked(folder: Path, target: Path, known: dict[str, str] | None = None) -> W
         raise AssertionError(UNKNOWN.format(shown.get("format_version"))) from fault
 
 
-def of_package(folder: Path, checked: bool = True) -> Surface:
-    """Returns what users can name in a package, and, if its functions compile, what its macro
-    writes."""
+def of_package(folder: Path) -> Surface:
+    """Returns what users can name in a package, and what its macro writes."""
     with TemporaryDirectory() as name:
         work = Path(name)
         walk = walked(folder, work / "target")
-        if checked and "record" in walk.names.values():
+        if "record" in walk.names.values():
             (work / "Cargo.toml").write_text(USER.format(folder))
             (work / "lib.rs").write_text(RECORD)
             known = {walk.place(id): name for id, name in walk.names.items()}
@@ -333,7 +333,8 @@ def added(old: Surface, new: Surface) -> set[str]:
     """Returns the names of what is new. A new type has one name, with all that it has."""
     places = {place for place, _ in old.kept.values()}
     found = (new.kept[it] for it in new.kept if it not in old.kept)
-    return {name if place in places else place.rsplit("::", 1)[-1] for place, name in found}
+    names = {name if place in places else place.rsplit("::", 1)[-1] for place, name in found}
+    return names - {OF_MATCHES}
 
 
 def heads(of: Surface) -> dict[str, str]:
@@ -343,16 +344,16 @@ def heads(of: Surface) -> dict[str, str]:
 
 
 def changed(old: Surface, new: Surface) -> tuple[Clauses, Clauses]:
-    """Returns the clauses and definitions that are gone, and those that are new and ask for more, or
-    give a name and its type a second meaning. Who calls a function shows what it requires, and who
-    implements a trait or writes out a struct shows all."""
+    """Returns the clauses and definitions that are gone, and those that are new and ask for more,
+    or give a name and its type a second meaning. Who calls a function shows what it requires, and
+    who implements a trait or writes out a struct shows all."""
     paths, known, named = {path for path, _ in old.clauses}, heads(old).values(), heads(new)
     lost, more = set(), set()
     for path, clause in old.clauses - new.clauses:
         if path in old.asked or not clause.startswith("requires"):
             lost.add((path, clause))
     for path, clause in new.clauses - old.clauses:
-        asks = path in paths and (path in new.asked or clause.startswith("requires"))
+        asks = path in paths and (path in old.asked or clause.startswith("requires"))
         if asks or path == DEFINITIONS and named[clause] in known:
             more.add((path, clause))
     return lost, more

@@ -1,14 +1,13 @@
-"""From 1.0 on, nothing is gone that the last release has, if it has the same first number: no name of
-Rust, no clause, no definition of an answer of `fontval`, no such answer, and no declaration of C.
-The last release was compared so with the one before it, and has all that this one had. CHANGELOG
-names what users of Rust can name since then, and has each clause that has other words now.
+"""From 1.0 on, nothing is gone that the last release has, if it has the same first number: no name
+of Rust, no clause, no definition, no answer of `fontval`, and no declaration of C. The last release
+was compared so with the one before it, and has all that this one had. CHANGELOG names what is new
+in Rust since then, and has each clause and definition that is written in other words now.
 
 `python3 tools/tests/api.py` prints what users can name, with contracts, and `python3
 tools/tests/api.py COMMIT` what differs from a commit.
 """
 
 import re
-import shutil
 import subprocess
 import sys
 import unittest
@@ -62,8 +61,8 @@ def weaker(old: Surface, new: Surface, page: str) -> list[str]:
     return wrong + [f"new: {path}: {it}" for path, it in sorted(more)]
 
 
-def of_tree(tree: Path, package: str, checked: bool = True) -> Surface:
-    found = surface.of_package((tree / package).resolve(), checked)
+def of_tree(tree: Path, package: str) -> Surface:
+    found = surface.of_package((tree / package).resolve())
     found.clauses.update((surface.DEFINITIONS, it) for it in stated(tree, package))
     return found
 
@@ -106,8 +105,8 @@ def of_c(shown: str) -> Counter[str]:
 
 
 def of_program(shown: str) -> Counter[str]:
-    """Returns what stays of `fontval`: the lines of its input that it does not refuse, each with its
-    answer."""
+    """Returns what stays of `fontval`: the lines of its input that it does not refuse, each with
+    its answer."""
     lines, answers = (it.split("\n") for it in shown.split("\n\0\n"))
     asked = zip(lines, answers)
     return Counter(f"{line}: {it}" for line, it in asked if not it.startswith("error "))
@@ -139,6 +138,105 @@ def git(commit: str, *command: str) -> bytes:
 
 def of_release(commit: str, path: str) -> bytes:
     return git(commit, "show", f"{commit}:{path}")
+
+
+# A package, and what takes something from its users, or asks more of them, and what does not.
+SAMPLE = """
+pub use inner::*;
+mod inner {
+    #[cfg(doc)]
+    use crate::definitions::strong as is_held;
+    /// ```text
+    /// requires { small a }
+    /// ensures { is_held result }
+    /// ensures last { large result }
+    /// ```
+    /// [`is_held`]
+    pub fn vary(a: u8) -> u8 { a }
+    pub fn here() {}
+    /// ```text
+    /// ghost value: { Self → ℕ };
+    /// ```
+    pub trait Offset: Copy {
+        const NULL: Self;
+        /// ```text
+        /// ensures { result ≡ value self }
+        /// ```
+        fn size(self) -> usize;
+        fn first(self) -> bool { true }
+    }
+    pub trait Mark {}
+    /// ```text
+    /// ghost within: { fill ≤ 9 },
+    /// ```
+    #[derive(Clone, Hash)]
+    pub struct Pad { pub fill: u8, pub side: u16 }
+    #[derive(Clone, Copy, Debug)]
+    pub enum Side { Left = 1, Right = 2 }
+    pub struct Row<'a>(&'a [u8]);
+    impl<'a> Row<'a> {
+        pub const MOST: usize = 4;
+        pub fn len(&self) -> usize { 4 }
+    }
+    /// ```text
+    /// ghost add_gives = { λ x y sum. sum ≡ x };
+    /// ```
+    impl core::ops::Add for Side {
+        type Output = u8;
+        fn add(self, _: Side) -> u8 { self as u8 }
+    }
+}
+#[cfg(doc)]
+pub mod definitions { pub mod strong {} pub mod weak {} }
+#[macro_export]
+macro_rules! record { ($v:vis struct $Name:ident $fields:tt) => { $v struct $Name $fields } }
+"""
+WRONG = [
+    ("strong as is_held", "weak as is_held"),
+    ("/// requires { small a }", "/// requires { small a }\n/// requires { tiny a }"),
+    ("/// ensures last { large result }\n", ""),
+    ("vary(a: u8)", "vary(a: i8)"),
+    ("(a: i8) -> u8 { a }", "(_: i8) -> u8 { 0 }"),
+    ("pub fn here", "#[cfg(doc)]\npub fn here"),
+    ("ghost value: { Self → ℕ };", "ghost value: { Self → ℕ };\n/// ghost law: { ⊤ };"),
+    ("const NULL: Self;", "const LEN: usize;"),
+    ("result ≡ value self }", "result ≡ value self }\n/// ensures { large result }"),
+    ("fn first(self) -> bool { true }", "fn first(self) -> bool;"),
+    ("pub trait Mark {}", "pub trait Mark {}\nimpl<T: Offset> Mark for &mut T {}"),
+    ("ghost within: { fill ≤ 9 },", "ghost within: { fill ≤ 9 },\n/// ghost more: { ⊥ },"),
+    ("#[derive(Clone, Hash)]", "#[derive(Clone)]"),
+    ("pub side", "side"),
+    ("Left = 1, Right = 2", "Left = 3, Right = 2, Up = 4"),
+    ("Row<'a>(&'a [u8])", "Row<'a>(&'a mut u8, *const u8)"),
+    ("MOST: usize", "MOST: u8"),
+    ("len(&self)", "len(_: &Self)"),
+    ("sum ≡ x }", "⊤ }"),
+    ("type Output = u8", "type Output = i8"),
+    ("_: Side) -> u8 { self as u8 }", "_: Side) -> i8 { self as i8 }"),
+    ("=> { $v struct", "=> { impl Drop for $Name { fn drop(&mut self) {} } $v struct"),
+]
+HASH = "impl core::hash::Hash for Pad { fn hash<H: core::hash::Hasher>(&self, _: &mut H) {} }"
+RIGHT = [
+    ("/// requires { small a }\n", ""),
+    ("ensures { is_held result }", "ensures held { is_held result }\n/// ensures { tiny result }"),
+    ("vary(a: u8) -> u8 { a }", "vary(other: u8) -> u8 { other }"),
+    ("#[derive(Clone, Hash)]", "#[derive(Clone)]"),
+    ("pub trait Mark {}", f"pub trait Mark {{}}\n{HASH}"),
+    ("#[derive(Clone, Copy", "#[derive(Clone, Copy, Eq, PartialEq"),
+    ("pub fn len", "/// ```text\n/// ensures { result ≡ 4 }\n/// ```\npub const fn len"),
+    ("pub fn here", "pub fn other() {}\npub fn here"),
+]
+
+
+def of_sample(work: Path, edits: list[tuple[str, str]]) -> Surface:
+    code = SAMPLE
+    for old, new in edits:
+        assert code.count(old) == 1, old
+        code = code.replace(old, new)
+    manifest = '[package]\nname = "font-types-proved"\nedition = "2024"\n[lib]\npath = "lib.rs"\n'
+    (work / "Cargo.toml").write_text(manifest + "[workspace]\n")
+    (work / "lib.rs").write_text(code)
+    return surface.of_package(work)
 
 
 def last_release() -> tuple[str, str]:
@@ -201,94 +299,47 @@ class Api(unittest.TestCase):
                 self.assertEqual(wrong, [], "\n".join(["see CONTRIBUTING.md on words", *wrong]))
             self.assertEqual(sorted(names - told), [], f"of {package}, not named in CHANGELOG")
 
-    def planted(self, *edits: tuple[str, str, str], checked: bool) -> Surface:
-        with TemporaryDirectory() as name:
-            for source in (path for it in FILES for path in ROOT.glob(it)):
-                copied = Path(name) / source.relative_to(ROOT)
-                copied.parent.mkdir(parents=True, exist_ok=True)
-                if source.is_dir():
-                    shutil.copytree(source, copied, ignore=shutil.ignore_patterns("target"))
-                else:
-                    shutil.copy(source, copied)
-            for path, old, new in edits:
-                file = Path(name, path)
-                self.assertIn(old, file.read_text())
-                file.write_text(file.read_text().replace(old, new))
-            return of_tree(Path(name), ".", checked)
-
     def test_what_is_gone(self) -> None:
-        """Of planted changes."""
-        old, of = current("."), "src/generated"
-        traits, scalar = "src/traits.rs", f"{of}/font_base/raw.rs"
-        scale, decimals = f"{of}/font_geom/scale.rs", "crates/font_decimal/specs/Grammar.antt"
-        words = "crates/font_lines/specs/Command.antt"
-        pad, offset = f"{of}/font_decimal/padding.rs", f"{of}/font_ids/offset.rs"
-        fused, exact = (f"impl {it}Iterator for Predefined {{}}" for it in ("Fused", "ExactSize"))
-        of_any = "impl<T: Scalar> crate::FixedSize for &mut T { const RAW_BYTE_LEN: usize = 0; }"
-        with_any = "impl<T: Scalar> Extend<T> for DeltaSum {" + (
-            " fn extend<I: IntoIterator<Item = T>>(&mut self, _: I) {} }"
-        )
-        factor = "    /// ensures { scale_bits result ≡ fixed_bits factor }\n"
-        more = "    /// ensures more { result ≡ result }\n"
-        law = "/// ghost is_scalar: { Self → Bool };\n"
-        read = "    /// ensures value { IfSome result (λ v. IsTrue (is_scalar v)) }\n"
-        numbers, sum = (
-            f"{of}/font_fixed/fixed_i32/common.rs",
-            "bits_of x +ℤ bits_of y) (bits_of sum)",
-        )
-        array, rest = f"{of}/font_base/array.rs", "rest: Iter<'a, T::Raw>,"
-        wrong = self.planted(
-            (f"{of}/font_types/mod.rs", ", vary}", "}"),
-            ("src/methods.rs", "IDENTITY: Self", "ONE: Self"),
-            ("src/methods.rs", " FixedI64, 64;", ""),
-            (traits, fused, f"{of_any}\n{with_any}"),
-            (f"{of}/font_tags/longdatetime.rs", "as_secs(&self)", "as_secs(of: &Self)"),
-            (f"{of}/font_decimal/reader.rs", "OutOfRange = 2,", "OutOfRange = 2,\n    Other,"),
-            (pad, "    pub fill: u8,", "    fill: u8,"),
-            (offset, "trait OffsetValue: Copy", "trait OffsetValue: Sized"),
-            (offset, "NULL", "NONE"),
-            (array, rest, "rest: (&'a T::Raw, *const T),"),
-            (scale, factor, ""),
-            (numbers, sum, sum.replace("+ℤ", "-ℤ")),
-            (
-                f"{of}/font_tags/tag.rs",
-                "four_spaces, tag_bytes",
-                "tag_of as four_spaces, tag_bytes",
-            ),
-            (scale, "    pub const fn new(", "    #[cfg(doc)]\n    pub const fn new("),
-            (scalar, law, f"{law}/// ghost more: {{ (a : Self) → a ≡ a }};\n"),
-            (scalar, read, read + more),
-            (decimals, "pub record Decimal (text", "pub record Decimal (words"),
-            (words, "only_word (word ∷ [])", "only_word (word ∷ _)"),
-            checked=False,
-        )
-        lost = (it.removeprefix("added: ") for it in surface.gone(old, wrong))
-        names = {(old.kept | wrong.kept)[it][1] for it in lost if "Record" not in it}
-        told = "Extend FixedSize FusedIterator IDENTITY MAX_TEXT_LEN NONE NULL OffsetValue Other "
-        told += "Pad RefUnwindSafe Send Sync UnwindSafe as_secs fill lit new vary"
-        self.assertEqual(sorted(names), told.split())
-        told = "Add AddAssign Decimal Default OffsetValue Scalar from_factor new only_word read "
-        told += "read_at take_from vary"
-        names = {surface.subject(*it) for it in set().union(*surface.changed(old, wrong))}
-        self.assertEqual(sorted(names), told.split())
-        hashed = "impl Hash for crate::Pad { fn hash<H: Hasher>(&self, _: &mut H) {} }"
-        default = "impl Default for crate::Align { fn default() -> Self { Self::Left } }"
-        dropped = "        impl Drop for $Name { fn drop(&mut self) {} }\n\n"
-        named = "from_factor(of: Fixed) -> Self { let factor = of;"
-        written = "        impl $crate::Scalar"
-        right = self.planted(
-            (traits, exact, f"{exact}\n{hashed}\n{default}"),
-            (pad, "PartialEq, Eq, Hash)]\npub struct Pad", "PartialEq, Eq)]\npub struct Pad"),
-            (scale, factor, factor.replace("ensures {", "ensures factor {") + more),
-            (scale, "from_factor(factor: Fixed) -> Self {", named),
-            (array, "    pub fn is_empty(", "    pub const fn is_empty("),
-            # What nobody may add.
-            ("src/record.rs", written, dropped + written),
-            checked=True,
-        )
-        self.assertEqual(surface.gone(old, right), ["added: impl core::ops::drop::Drop for Record"])
+        """Of a package with what rustdoc has words for. If rustdoc gives one of them another word,
+        so that it is in no line, this test fails."""
+        with TemporaryDirectory() as name:
+            old = of_sample(Path(name), [])
+            wrong, right = of_sample(Path(name), WRONG), of_sample(Path(name), RIGHT)
+        kept = old.kept | wrong.kept
+        names = {kept[it.removeprefix("added: ")][1] for it in surface.gone(old, wrong)}
+        told = "Drop Hash LEN Left MOST Mark NULL Output Pad Send Sync UnwindSafe Up "
+        self.assertEqual(sorted(names), (told + "first here len side vary").split())
+        lost, more = (sorted(it for _, it in of) for of in surface.changed(old, wrong))
+        told = "ensures { large result } | ensures { strong result } | ghost add_gives = "
+        self.assertEqual(" | ".join(lost), told + "{ λ x y sum. sum ≡ x };")
+        told = "ensures { large result } | ghost law: { ⊤ }; | ghost more: { ⊥ }, | requires "
+        self.assertEqual(" | ".join(more), told + "{ tiny a }")
+        self.assertEqual(surface.gone(old, right), [])
         self.assertEqual(surface.changed(old, right), (set(), set()))
-        self.assertEqual(surface.added(old, right), {"Default", "Drop", "is_empty"})
+        self.assertEqual(surface.added(old, right), {"Eq", "PartialEq", "len", "other"})
+
+    def test_definitions_and_rewordings(self) -> None:
+        """Of planted changes."""
+
+        def of(code: str, *clauses: str) -> Surface:
+            found = [(surface.DEFINITIONS, it) for it in surface.definitions(code)]
+            found += [("f", it) for it in clauses]
+            return Surface({}, set(), Counter(found), set(), {})
+
+        code = "use A.{other, small}\n\nabbrev pub IsA : Type 0\nIsA = small\n"
+        old = of(code, "ensures { a }", "ensures { b }")
+        page = "- Of `f`.\n\n`f`: b is c.\n\n```diff\n-ensures b { b }\n+ensures {\n+    c }\n```\n"
+        new = of(code, "ensures { a }", "ensures { c }", "ensures { d }")
+        self.assertEqual(weaker(old, new, page), [])
+        self.assertEqual(weaker(old, new, "`f`"), ["gone: f: ensures { b }"])
+        self.assertEqual(weaker(old, old, page), ["no rewording: f: ensures { b }"])
+        redirected = of(code.replace("other, small", "other as small"), "ensures { a }")
+        self.assertEqual(len(weaker(old, redirected, "")), 3)
+        more = "\nabbrev IsA : Type 0\nIsA = other\n\nabbrev IsA : ℕ\nIsA = 0\n"
+        again = of(code + more, "ensures { a }", "ensures { b }")
+        self.assertEqual(
+            weaker(old, again, ""), ["new: definitions: abbrev IsA : Type 0 IsA = other"]
+        )
 
     def test_lines_and_declarations(self) -> None:
         """Of planted changes."""
