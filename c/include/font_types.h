@@ -33,13 +33,9 @@
  *     tags          fty_tag_{parse,validate,format}
  *     version       fty_version
  *
- * The exports, for languages that do not read this header. Of two names for one thing, the one
- * with "abi" is the export: it takes each array as a pointer and a length.
- *
- *     fty_{fixed,f26dot6}_{mul,div}  fty_fixed_mul_div
- *     fty_matrix_product  fty_matrix_transform_{point,vector,points}
- *     fty_abi_{delta_sum,delta_set_sum,format,format_padded,tag_format}  fty_parse_{i16,i32,i64}
- *     fty_checked_add_delta_{i16,u16}  fty_tag_{parse,validate}  fty_version
+ * Languages that do not read this header call the exports, which font_types.map lists, as does
+ * nm -D of the library. Of two names for one thing, the one with "abi" is the export: it takes each
+ * array as a pointer and a length.
  *
  * Each function that the library exports has a contract that is proved. The comment of the function
  * states the contract.

@@ -23,7 +23,7 @@ fails grep -v "@@$node" <<<"$exported"
 is "$(names <<<"$exported")" "$exports" 'in the library' "$declares"
 cc -std=c99 -Iinclude -c tests/table.c -o "$work/table.o"
 is "$(nm -u "$work/table.o" | names)" "$exports" 'called by table.c' "$declares"
-# The head of the header lists each, as in C or as a call of the library.
+# The head of the header lists each for callers in C, and font_types.map the exports.
 listed() {
     eval "printf '%s\n' $(sed -n "/^ \* $1/,/^ \* $2/p" include/font_types.h |
         grep -o 'fty_[a-z0-9_{},]*' | tr '\n' ' ')" | sort -u
@@ -33,9 +33,9 @@ calling=$(printf '%s\n' fty_{fixed,f2dot14,f26dot6}_{parse,format} \
 public=$(grep -v '^fty_abi_' <<<"$declared")
 is "$(listed 'In C, in' 'Calls of')" "$(comm -23 <(echo "$inline") <(echo "$calling"))" \
     'at the head, "In C"' "$declares"
-is "$(listed 'Calls of' 'The exports')" "$(sort <<<"$public"$'\n'"$calling")" \
+is "$(listed 'Calls of' 'Languages')" "$(sort <<<"$public"$'\n'"$calling")" \
     'at the head, "Calls"' "$declares"
-is "$(listed 'The exports' 'Each function')" "$exports" 'at the head, "The exports"' "$declares"
+is "$(names <font_types.map)" "$exports" 'in font_types.map' "$declares"
 # Their types are those of the Rust that is compiled. An enum is returned as 32 bits.
 in_c=$(grep -E ";\$|($(paste -sd '|' <<<"$both"))\(" <<<"$typed" | sed -E '
     s/ noexcept *[;{]//; s/\(void\)/()/; s/ *\*[a-z_]+/*/g; s/ [a-z_]+([,)])/\1/g
