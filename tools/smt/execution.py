@@ -13,7 +13,7 @@ from z3 import BitVecRef, BoolRef
 
 import steps
 from arithmetic import Arithmetic
-from ir import LABEL, NAME, Attributes, Function, Instruction, Module
+from ir import LABEL, NAME, PHI, Attributes, Function, Instruction, Module
 from ir import split_commas, take_attributes, take_type
 from memory import Cells, Memory, Objects, globals_of
 from state import Goals, State
@@ -24,7 +24,6 @@ from values import (
 )  # fmt: skip
 
 PANICS = re.compile(r"panic|unwrap_failed|expect_failed|slice_index|len_mismatch")
-PHI = re.compile(rf"\[ (.*?), ({NAME}) \]")
 # What a call promises of its result, the name of the function, and the texts of the arguments.
 Called = tuple[Attributes, str, list[str]]
 

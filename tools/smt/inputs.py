@@ -10,7 +10,7 @@ from z3 import BitVecRef, BoolRef
 
 from rows.cases import Case
 from memory import Object, Slice
-from rows.rules import Products, Sums, Text
+from rows.rules import Text
 from values import Address, Number, Value, constant
 
 # Numbers by the name of a parameter; of a slice, its bytes.
@@ -54,14 +54,14 @@ def byte_of(data: bytes) -> Callable[[BitVecRef], BitVecRef]:
     return byte
 
 
-def inputs(case: Case, products: Products, given: Given | None = None) -> Inputs:
+def inputs(case: Case, given: Given | None = None) -> Inputs:
     """Returns unknown arguments, or those that are given. A slice is at most 2^63 - 1 bytes, or
     2^31 - 1 of a target of 32 bits. A `size` has the bits of a length, and 64 for the rule."""
     made = Inputs([], {}, [], [], {})
     for name, type_ in case.parameters:
         value = given[name] if given is not None else None
         if type_ in ELEMENTS:
-            slice_of(made, name, type_, value, products)
+            slice_of(made, name, type_, value)
             continue
         bits = z3.BitVec(name, width_of(type_))
         if value is None:
@@ -74,9 +74,7 @@ def inputs(case: Case, products: Products, given: Given | None = None) -> Inputs
     return made
 
 
-def slice_of(
-    made: Inputs, name: str, type_: str, value: int | bytes | None, products: Products
-) -> None:
+def slice_of(made: Inputs, name: str, type_: str, value: int | bytes | None) -> None:
     size, align = ELEMENTS[type_]
     if isinstance(value, bytes):
         count, byte = constant(len(value) // size), byte_of(value)
@@ -84,12 +82,12 @@ def slice_of(
         count = made.variables[f"{name}_length"] = z3.BitVec(f"{name}_length", 64)
         byte = z3.Function(name, z3.BitVecSort(64), z3.BitVecSort(8))
         made.conditions.append(z3.ULE(count, ((1 << POINTER - 1) - 1) // size))
-    text = Text(z3.simplify(count * size), byte)
+    text = Text(z3.simplify(count * size), byte, count)
     # Only a room is behind `&mut`.
     made.memory[name] = Slice(text.length, align, byte, type_ != "room")
     passed = z3.simplify(z3.Extract(POINTER - 1, 0, count))
     made.arguments.extend([Address(name, constant(0)), Number(passed)])
-    made.of_rule.append(Sums(products, text, count) if type_ == "terms" else text)
+    made.of_rule.append(text)
 
 
 def of_model(case: Case, model: Any) -> Given:

@@ -8,6 +8,7 @@ from values import Unsupported
 
 NAME = r'(?:[@%]"[^"]*"|[@%][\w.$-]+)'
 LABEL = re.compile(rf"label ({NAME})")
+PHI = re.compile(rf"\[ (.*?), ({NAME}) \]")
 INSTRUCTION = re.compile(rf"(?:({NAME}) = )?(?:(?:tail|notail|musttail) )?(\w+) ?(.*)$")
 # A call that goes on at a label, and at another if it panics, which no call may.
 INVOKE = re.compile(r"(.*?)\binvoke (.*) to (label \S+) unwind label [^\s,]+(.*)")
@@ -49,15 +50,17 @@ class Function(NamedTuple):
     parameters: list[tuple[str, Attributes, str]]
     blocks: dict[str, list[Instruction]]
 
-    def repeats(self, block: str) -> bool:
-        """Returns whether a block can be reached again from itself."""
-        seen: set[str] = set()
-        ahead = [block]
+    def turns(self, head: str) -> set[str]:
+        """Returns the blocks from which a loop goes on at its head: what goes there, and cannot be
+        reached but through there. No other block is the head of a loop."""
+        first = next(iter(self.blocks))
+        seen, ahead = {head, first}, [first] if head != first else []
         while ahead:
             new = set(LABEL.findall(self.blocks[ahead.pop()][-1].text)) - seen
             seen |= new
             ahead += new
-        return block in seen
+        inside = {head, *(self.blocks.keys() - seen)}
+        return {it for it in inside if head in LABEL.findall(self.blocks[it][-1].text)}
 
 
 class Constant(NamedTuple):

@@ -274,8 +274,7 @@ class Parsing:
     # ------------------------------------------------------------ loops
 
     def is_head(self, function: Function, block: str) -> bool:
-        """Returns whether a block can be reached again from itself, and has values of a turn."""
-        return function.repeats(block) and any(it.op == "phi" for it in function.blocks[block])
+        return bool(function.turns(block))
 
     def names(self, function: Function, values: Names) -> tuple[str, str, str]:
         """Returns which loop it is, and the names of the index and of the other value of a turn.

@@ -19,7 +19,7 @@ from ir import Module
 from loops import Loops
 from execution import End, Machine
 from memory import Slice
-from rows.rules import Products, Sums, Text, check_widths, use_width
+from rows.rules import Products, Text, check_widths, use_width
 from state import LIMIT, QUICK, Disagreement, Goals, ask, ask_simplified
 from values import Unsupported, constant, number_of
 
@@ -85,18 +85,18 @@ class Proof:
         """Proves the function, or raises why not."""
         self.arithmetic = Arithmetic()
         self.products = Products(self.arithmetic)
-        self.given = inputs(self.case, self.products)
+        self.given = inputs(self.case)
         # A sample of arguments without slices has shown that paths return, and that facts are true.
         is_met = self.agreed > 0 and not self.case.has(*ELEMENTS)
-        goals, loops = Goals(self.refute), None
-        if self.case.has("terms"):
-            name = next(name for name, type_ in self.case.parameters if type_ == "terms")
-            sums = next(it for it in self.given.of_rule if isinstance(it, Sums))
-            loops = Loops(goals, sums, name, sums.count)
+        goals = Goals(self.refute)
+        self.rule()
+        loops = Loops(goals, self.products) if self.products.asked else None
         machine = Machine(self.module, self.arithmetic, goals, loops)
         of_case = self.given.arguments, self.given.memory, self.given.conditions
         for end in machine.run(f"@{self.case.symbol}", *of_case):
             value = number_of(end.value)
+            if loops:
+                loops.define()
             if not self.module.functions[f"@{self.case.symbol}"].returns.noundef:
                 self.refute("the result is poison", end.conditions + [value.poison])
             right = self.right(self.products, self.given, value.bits, end)
@@ -106,10 +106,10 @@ class Proof:
             is_met = is_met or self.solver(conditions, self.arithmetic.facts).check() == z3.sat
         if not is_met:
             raise Unknown("no argument is known for which it returns")
-        check_widths(self.rule(end), self.arithmetic)
+        check_widths([*self.rule(end), *(loops.define() if loops else [])], self.arithmetic)
         self.check_facts()
 
-    def rule(self, end: End) -> list[Any]:
+    def rule(self, end: End | None = None) -> list[Any]:
         """Returns the rule, of any result of a relation."""
         if not self.case.is_relation:
             return [self.case.rule(self.products, *self.given.of_rule)]
@@ -131,7 +131,9 @@ class Proof:
         if case.has("room"):
             memory = end.memory if end else given.memory
             after = [it for name, it in memory.items() if name in given.memory]
-            of_rule += [Text(it.length, it.byte) for it in after if isinstance(it, Slice)]
+            of_rule += [
+                Text(it.length, it.byte, it.length) for it in after if isinstance(it, Slice)
+            ]
             of_rule.insert(-1, result)
         else:
             of_rule.append(result)
@@ -194,7 +196,7 @@ class Proof:
                 found.append(why)
 
         products = Products(Arithmetic(exact=True))
-        known = inputs(self.case, products, given)
+        known = inputs(self.case, given)
         machine = Machine(self.module, products.arithmetic, Goals(refute))
         ends = list(machine.run(f"@{self.case.symbol}", known.arguments, known.memory, []))
         at = f"at {shown(self.case, given)}"

@@ -209,7 +209,7 @@ start:
 
 def is_right(type_):
     arithmetic, goals = Arithmetic(), []
-    made = inputs(Case("", [("p", type_)], "", "", None, False, ""), Products(arithmetic))
+    made = inputs(Case("", [("p", type_)], "", "", None, False, ""))
     has_room = [*made.conditions, made.variables["p_length"] > 0]
     machine = Machine(Module(TEXT), arithmetic, Goals(lambda why, it: goals.append(z3.And(it))))
     list(machine.run("@f", made.arguments, made.memory, has_room))
@@ -234,7 +234,7 @@ from rows.rules import Products
 case = Case("", [("p", "bytes"), ("d", "u64")], "u64", "", None, False, "")
 proof = Proof(Module(""), case, None)
 proof.arithmetic = Arithmetic()
-proof.given = inputs(case, Products(proof.arithmetic))
+proof.given = inputs(case)
 length = proof.given.variables["p_length"]
 proof.arithmetic.divide(length, proof.given.variables["d"])
 

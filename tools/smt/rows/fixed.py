@@ -1,12 +1,13 @@
 """Rows of fixed-point numbers: arithmetic, conversions, and sums of deltas."""
 
 import z3
+from z3 import BitVecRef, BoolRef
 
 from rows.row import FORMATS, Rule, case, relation
 
 from rows.rules import (
-    B, S, U, absolute, big_endian, checked, checked_scaled, fits, fits_unsigned, near, saturate,
-    scaled, some, up, whole, wrap,
+    B, Fold, Products, S, Text, U, absolute, big_endian, checked, checked_scaled, fits,
+    fits_unsigned, near, saturate, scaled, some, together, up, whole, wrap,
 )  # fmt: skip
 
 # fmt: off
@@ -186,15 +187,28 @@ case("DeltaSum::finish", "n: i128", "i64",
 case("DeltaSum::checked_finish", "n: i128", "?i64",
      f"unsafe {{ {SUM.format('n')} }}.checked_finish().map(F48Dot16::to_bits)",
      lambda p, n: checked(64, S(n)))
+def exact_sum(p: Products, terms: Text) -> BitVecRef:
+    """ "The exact sum" of the products of terms (scalar, delta), of four bytes each. It is at most
+    k 2^62 and at least -k 2^62 of k terms, and so exact in 128 bits: k is less than 2^60."""
+    def step(k: BitVecRef, before: BitVecRef) -> list[tuple[BitVecRef, BoolRef]]:
+        words = (together(terms.bytes(8 * k + i, 4)[::-1]) for i in (0, 4))
+        product = p.arithmetic.multiply(*(z3.SignExt(32, it) for it in words))
+        return [(before + z3.SignExt(64, product), z3.BoolVal(True))]
+
+    most = lambda k: z3.ZeroExt(64, k) << 62
+    sums = Fold(p, "sum", z3.BitVecVal(0, 128), step, lambda k: (-most(k), most(k)))
+    return sums.of(terms.count)
+
+
 case("delta_sum", "terms: terms", "i64", "delta_sum(terms).to_bits()",
-     lambda p, terms: terms.all(64))
+     lambda p, terms: wrap(64, exact_sum(p, terms)))
 case("checked_delta_sum", "terms: terms", "?i64",
      "checked_delta_sum(terms).map(F48Dot16::to_bits)",
-     lambda p, terms: checked(64, S(terms.all(128))))
+     lambda p, terms: checked(64, S(exact_sum(p, terms))))
 # Of `Some`, the lower 100 bits, which have to be all, below a bit that says `Some`.
 case("vary", "x: i16, terms: terms", "i128",
      "match vary(FWord::new(x), terms) { None => 0, Some(it) if it >> 99 == it >> 127 =>"
      " it & ((1 << 100) - 1) | 1 << 126, Some(_) => 1 }",
-     lambda p, x, terms: z3.If(fits(64, S(terms.all(128))), z3.Concat(z3.BitVecVal(
-         1 << 26, 28), wrap(100, S(x) * 65536 + S(terms.all(128)))), z3.BitVecVal(0, 128)))
+     lambda p, x, terms: z3.If(fits(64, S(exact_sum(p, terms))), z3.Concat(z3.BitVecVal(
+         1 << 26, 28), wrap(100, S(x) * 65536 + S(exact_sum(p, terms)))), z3.BitVecVal(0, 128)))
 # fmt: on

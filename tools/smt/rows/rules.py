@@ -8,7 +8,7 @@ rounds down. No sum or product of a rule reaches 2^(W-1), by the bounds of what 
 import operator
 from collections.abc import Callable, Iterable, Iterator, Sequence
 from itertools import product
-from typing import NamedTuple
+from typing import Any, NamedTuple
 
 import z3
 from z3 import BitVecRef, BoolRef
@@ -180,6 +180,8 @@ class Products:
 
     def __init__(self, arithmetic: Arithmetic) -> None:
         self.arithmetic = arithmetic
+        # The folds that a rule asks for, with how many terms, and the numbers that say which.
+        self.asked: dict[tuple[Any, ...], "Asked"] = {}
 
     def times(self, x: BitVecRef, y: BitVecRef) -> BitVecRef:
         """The product of two signed numbers of 32 bits, which fits in 64."""
@@ -207,16 +209,19 @@ class Products:
         m, n, d = (z3.ZeroExt(64 - 32, arithmetic.magnitude(it)) for it in (x, a, c))
         product = arithmetic.multiply(m, z3.simplify(n) if z3.is_bv_value(a) else n)
         negative = z3.Xor(z3.Xor(x < 0, a < 0), c < 0)
-        if arithmetic.exact:
-            q = z3.UDiv(2 * U(product) + U(d), 2 * U(d))
-            return [(z3.If(negative, -q, q), z3.BoolVal(True))]
+        return [(z3.If(negative, -q, q), it) for q, it in self.nearest(product, d)]
+
+    def nearest(self, n: BitVecRef, d: BitVecRef) -> list[tuple[BitVecRef, BoolRef]]:
+        """Each number q with a condition under which it is the nearest to n / d, unsigned, and of
+        two the greater. `d` is not 0."""
+        if self.arithmetic.exact:
+            return [(z3.UDiv(2 * U(n) + U(d), 2 * U(d)), z3.BoolVal(True))]
         found = []
-        for q, divisor in arithmetic.quotients:
+        for q, divisor in self.arithmetic.quotients:
             # A fact of quotients says that this is their product as integers.
-            multiple = U(arithmetic.multiply(q, divisor))
-            over, under = multiple - U(product), U(product) - multiple
-            is_nearest = z3.And(U(divisor) == U(d), 2 * over <= U(d), 2 * under < U(d))
-            found.append((z3.If(negative, -U(q), U(q)), is_nearest))
+            multiple = U(self.arithmetic.multiply(q, divisor))
+            over, under = multiple - U(n), U(n) - multiple
+            found.append((U(q), z3.And(U(divisor) == U(d), 2 * over <= U(d), 2 * under < U(d))))
         return found
 
 
@@ -281,10 +286,11 @@ def together(stored_bytes: Sequence[BitVecRef]) -> BitVecRef:
 
 
 class Text(NamedTuple):
-    """Bytes that a function gets, by their index."""
+    """Bytes that a function gets, by their index, and how many elements they are."""
 
     length: BitVecRef
     byte: Callable[[BitVecRef], BitVecRef]
+    count: BitVecRef
 
     def bytes(self, start: BitVecRef | int, count: int) -> list[BitVecRef]:
         first = z3.BitVecVal(start, 64) if isinstance(start, int) else start
@@ -295,48 +301,54 @@ class Text(NamedTuple):
         return U(start) + count <= U(self.length)
 
 
-class Sums:
-    """ "The exact sum" of the products of terms (scalar, delta), of four bytes each. The sum of the
-    terms before an offset is 0 for the offset 0, and each next term adds its product. It is at most
-    k 2^62 and at least -k 2^62 of k terms, and so exact in 128 bits: k is less than 2^60."""
+class Fold:
+    """A number F(k) of k terms, and of numbers that say which terms: F(0) is `first`. If F(k) is
+    `last`, each later one is. Else `step` gives numbers, each with a condition under which it is
+    F(k + 1), of k, F(k) and the numbers. `within` gives numbers that F(k), signed, is between; so
+    has each loop that computes it to show."""
 
-    def __init__(self, products: Products, text: Text, count: BitVecRef) -> None:
-        self.products, self.text, self.count = products, text, count
-        for bits in (64, 128):
-            products.arithmetic.facts.append(self.before(z3.BitVecVal(0, 64), bits) == 0)
+    def __init__(
+        self,
+        products: Products,
+        name: str,
+        first: BitVecRef,
+        step: Callable[..., list[tuple[BitVecRef, BoolRef]]],
+        within: Callable[[BitVecRef], tuple[BitVecRef, BitVecRef]] | None = None,
+        last: BitVecRef | None = None,
+    ) -> None:
+        self.products, self.name, self.first, self.step = products, name, first, step
+        self.within, self.last = within, last
 
-    def before(self, offset: BitVecRef, bits: int) -> BitVecRef:
-        """The sum of the terms before an offset, modulo 2^bits."""
-        return z3.Function(f"sum_before{bits}", z3.BitVecSort(64), z3.BitVecSort(bits))(offset)
+    def of(self, count: BitVecRef, *others: BitVecRef) -> BitVecRef:
+        """Returns F(count)."""
+        arithmetic, zero = self.products.arithmetic, z3.BitVecVal(0, 64)
+        if not arithmetic.exact:
+            asked = Asked(self, count, others)
+            key = self.name, *(it.get_id() for it in (count, *others))
+            if key not in self.products.asked:
+                self.products.asked[key] = asked
+                arithmetic.facts.append(asked.at(zero) == self.first)
+            return asked.at(count)
+        value = self.first
+        for k in range(z3.simplify(count).as_long()):
+            if self.last is not None and value.eq(self.last):
+                break
+            some = self.step(zero + k, value, *others)
+            value = next(z3.simplify(it) for it, fit in some if z3.is_true(z3.simplify(fit)))
+        return value
 
-    def all(self, bits: int) -> BitVecRef:
-        """The sum of all terms, modulo 2^bits."""
-        if not self.products.arithmetic.exact:
-            return self.bounded(self.count * 8, bits)
-        total = (self.product(z3.BitVecVal(8 * i, 64), bits) for i in range(self.count.as_long()))
-        return z3.simplify(sum(total, z3.BitVecVal(0, bits)))
 
-    def product(self, offset: BitVecRef, bits: int) -> BitVecRef:
-        """The product of the term at an offset."""
-        words = (together(self.text.bytes(offset + i, 4)[::-1]) for i in (0, 4))
-        extended = (z3.SignExt(32, z3.simplify(it)) for it in words)
-        product = self.products.arithmetic.multiply(*extended)
-        return z3.SignExt(bits - 64, product) if bits > 64 else product
+class Asked(NamedTuple):
+    """A fold of so many terms, and the numbers that say which."""
 
-    def define(self, offset: BitVecRef, count: int, bits: int) -> None:
-        """States the definition for so many terms, from an offset on."""
-        after, total = z3.simplify(offset + 8 * count), self.bounded(offset, bits)
-        for i in range(count):
-            total = total + self.product(offset + 8 * i, bits)
-        self.products.arithmetic.facts.append(self.bounded(after, bits) == z3.simplify(total))
+    fold: Fold
+    count: BitVecRef
+    others: tuple[BitVecRef, ...]
 
-    def bounded(self, offset: BitVecRef, bits: int) -> BitVecRef:
-        """Returns the sum before an offset, and states its bounds."""
-        total = self.before(offset, bits)
-        if bits == 128:
-            most = z3.ZeroExt(64, z3.LShR(offset, 3)) << 62
-            self.products.arithmetic.facts.append(z3.And(total <= most, -most <= total))
-        return total
+    def at(self, k: BitVecRef) -> BitVecRef:
+        """Returns F(k)."""
+        sorts = [z3.BitVecSort(64)] * (len(self.others) + 1)
+        return z3.Function(self.fold.name, *sorts, self.fold.first.sort())(*self.others, k)
 
 
 # ---------------------------------------------------------------- tags
