@@ -25,8 +25,8 @@ from values import Unsupported, constant, number_of
 
 # How many arguments are tried, to find one that shows a fault.
 SEARCH = 3000
-# The most elements of a slice in an argument that is shown.
-MOST = 12
+# The most elements of a slice in an argument that is shown: a header has up to 20 bytes.
+MOST = 24
 WRONG, OUTSIDE = "wrong result", "out of bounds"
 
 

@@ -1,5 +1,6 @@
-"""Which functions the wrapper of each row calls itself, by the IR that rustc makes of it before any
-optimization: the place of a function in the source, and its numbers of fraction bits."""
+"""Which functions the wrapper of each row and its closures call themselves, by the IR that rustc
+makes of it before any optimization: the place of a function in the source, and its numbers of
+fraction bits."""
 
 import re
 import tempfile
@@ -15,6 +16,8 @@ OPTIONS = """--crate-type lib -C opt-level=0 -C no-prepopulate-passes -C debugin
 Called = tuple[str, int, list[int]]
 CALL = r"^  (?:\S+ = )?(?:call|invoke) [^@]*@(\w+)"
 FILE = re.compile(r'^(!\d+) = !DIFile\(filename: "[^"]*/(?:src|c)/generated/([^"]*)"', re.M)
+# A closure of a wrapper, and the length of the wrapper's name, with what begins with the name.
+CLOSURE = re.compile(r"_R(?:NC)+\w*?8wrappers(\d+)(\w+)")
 FUNCTION = re.compile(r'[nN]ame: "(\w+)", scope: !\d+, file: (!\d+), line: (\d+)')
 
 
@@ -29,5 +32,8 @@ def called(tree: Path) -> list[tuple[str, list[Called]]]:
             bits = [int(it, 16) for it in re.findall(r"FixedI\d\dKm(\w+?)_", name)]
             places[name] = files[file], int(line), bits
     bodies = dict(re.findall(r"^define [^@]*@(\w+)(\(.*?^})", ir, re.M | re.S))
+    for name in list(bodies):
+        if found := CLOSURE.match(name):
+            bodies[found[2][: int(found[1])]] += bodies[name]
     calls = ((it.name, re.findall(CALL, bodies[it.symbol], re.M)) for it in rows)
     return [(row, [places[it] for it in names if it in places]) for row, names in calls]
