@@ -21,7 +21,8 @@
  *     conversions   fty_fixed_to_{i32,f26dot6,f2dot14}  fty_f26dot6_to_i32  fty_fixed_from_i32
  *                   fty_f48dot16_{to_i64,checked_to_fixed}
  *     arithmetic    fty_{add,sub}_i32  fty_{fixed,f26dot6}_mul  fty_mul_div_i64
- *     others        fty_delta_set_length  fty_status_text  FTY_TAG
+ *     variations    fty_region_scalar  fty_delta_set_length
+ *     others        fty_status_text  FTY_TAG
  *
  * Calls of the library: link with libfont_types.
  *
@@ -77,8 +78,8 @@
  * No function of the first two lists takes two integers of different kinds, which a compiler would
  * take in any order, but fty_items, for which both orders are one: an offset is the only integer of
  * its call, fraction bits are a fty_fraction, and an array beside another integer is one value with
- * its length, a fty_view, fty_span, fty_buffer or fty_numbers. A text, or points, beside no integer
- * are a pointer and a length.
+ * its length, a fty_view, fty_span, fty_buffer or fty_numbers. A text, points or coordinates beside
+ * no integer are a pointer and a length.
  *
  * What writes text stores the text in a fty_buffer, and its length where the last argument points.
  * If two errors apply, the status is the first that the comment lists. If a function fails, it
@@ -1120,6 +1121,50 @@ FTY_API_PURE fty_point fty_matrix_transform_vector(fty_matrix m, fty_point v) FT
 /** Transforms points in place, each as fty_matrix_transform_point does. */
 void fty_matrix_transform_points(
     const fty_matrix *m, fty_point *points, size_t count) FTY_API_NOEXCEPT;
+
+/* ---- scalars of regions of an item variation store ---- */
+
+/** @cond */
+/* A scalar times that along an axis, which is stored as a start, a peak and an end. A distance of
+ * coordinates fits in 16 bits, and its product by a scalar, which is at most 65536, in 32. */
+FTY_API_INLINE uint32_t fty_api_scaled(
+    uint32_t scalar, const uint8_t *axis, int16_t coordinate) FTY_API_NOEXCEPT {
+    const int16_t peak = fty_peek_i16(axis + 2);
+    int16_t start = 0, end = 0;
+    uint16_t part = 0, whole = 0;
+    if (peak == 0 || peak == coordinate)
+        return scalar;
+    start = fty_peek_i16(axis);
+    end = fty_peek_i16(axis + 4);
+    if (start > peak || peak > end || (start < 0 && end > 0))
+        return scalar;
+    if (coordinate <= start || coordinate >= end)
+        return 0;
+    part = FTY_API_AS(uint16_t, coordinate < peak ? coordinate - start : end - coordinate);
+    whole = FTY_API_AS(uint16_t, coordinate < peak ? peak - start : end - peak);
+    return (scalar * part + whole / 2u) / whole;
+}
+/** @endcond */
+
+/**
+ * The scalar of a region in 16.16, at coordinates in 2.14: the product of those along its axes, in
+ * order, rounded once for each axis, half up. Along an axis, the scalar is 1 at the peak, falls to 0
+ * at the start and at the end, and is 0 beyond. It is 1 everywhere if the peak is 0, if start, peak
+ * and end are out of order, or if start and end are on both sides of 0.
+ * Fails by FTY_OUT_OF_BOUNDS unless the region is present and has 6 bytes for each coordinate.
+ */
+FTY_API_INLINE fty_status fty_region_scalar(
+    fty_view region, const int16_t *coordinates, size_t count, int32_t *scalar) FTY_API_NOEXCEPT {
+    const fty_view axes = fty_items(region, count, 6);
+    uint32_t product = 65536;
+    size_t axis = 0;
+    if (axes.bytes == FTY_API_NULL || axes.length != region.length)
+        return FTY_OUT_OF_BOUNDS;
+    for (; axis < count; axis++)
+        product = fty_api_scaled(product, axes.bytes + 6 * axis, coordinates[axis]);
+    *scalar = FTY_API_AS(int32_t, product);
+    return FTY_OK;
+}
 
 /* ---- sums of deltas: scalars are 16.16, deltas font units, sums 48.16 ---- */
 

@@ -59,6 +59,63 @@ static struct {
               && fty_put_##NAME(&room, NUMBER) == FTY_OUT_OF_BOUNDS);                             \
     } while (0)
 
+/* The scalar of a region of up to three axes at coordinates, all of 2.14, or KEPT. */
+static int32_t scalar_of(const int16_t *axes, const int16_t *coordinates, size_t count) {
+    uint8_t bytes[18];
+    int32_t scalar = KEPT;
+    fty_span rest = {bytes, sizeof bytes};
+    fty_status status = FTY_OK;
+    for (size_t i = 0; i < 3 * count && status == FTY_OK; i++)
+        status = fty_put_i16(&rest, axes[i]);
+    const fty_view region = {bytes, 6 * count};
+    return fty_region_scalar(region, coordinates, count, &scalar) == status ? scalar : -KEPT;
+}
+
+/* Of one axis, as fontTools has it, times 65536. */
+static int32_t scalar_along(int start, int peak, int end, int coordinate) {
+    const int16_t axis[] = {(int16_t)start, (int16_t)peak, (int16_t)end};
+    const int16_t at = (int16_t)coordinate;
+    return scalar_of(axis, &at, 1);
+}
+
+static void scalars_of_regions(void) {
+    /* At 0.625 of (0, 0.5, 1), on its other side, at its peak, at its ends and beyond. */
+    STATE(scalar_along(0, 8192, 16384, 10240) == 49152
+          && scalar_along(-16384, -8192, 0, -2048) == 16384
+          && scalar_along(0, 8192, 16384, 8192) == 65536
+          && scalar_along(0, 8192, 16384, 0) == 0 && scalar_along(0, 8192, 16384, 16384) == 0
+          && scalar_along(4096, 8192, 12288, 4095) == 0
+          && scalar_along(4096, 8192, 12288, 16384) == 0
+          && scalar_along(0, 16384, 16384, 16384) == 65536
+          && scalar_along(16384, 16384, 16384, 16383) == 0);
+    /* Ignored axes: of peak 0, on both sides of 0, and out of order. */
+    STATE(scalar_along(-16384, 0, 16384, 8192) == 65536
+          && scalar_along(-1, 8192, 16384, 4096) == 65536
+          && scalar_along(-16384, -8192, 1, 8192) == 65536
+          && scalar_along(8193, 8192, 16384, 4096) == 65536
+          && scalar_along(0, 8192, 8191, 16384) == 65536
+          && scalar_along(0, 0, 0, -16384) == 65536);
+    /* Of the longest distances; a third; its half, a tie; and 5/6 of that, a tie too, which would be
+     * 9102 if the scalar along the axis were rounded by itself. FT_MulDiv gives the same. */
+    STATE(scalar_along(-32768, -32768, 0, -1) == 2
+          && scalar_along(0, 32767, 32767, 32766) == 65534);
+    static const int16_t axes[] = {0, 3, 6, -4, -2, 0, 4, 10, 10}, at[] = {1, -1, 9};
+    STATE(scalar_of(axes, at, 1) == 21845 && scalar_of(axes, at, 2) == 10923
+          && scalar_of(axes, at, 3) == 9103 && scalar_of(axes, at, 0) == 65536);
+    /* The second axis at its peak, and the third at its start. */
+    static const int16_t at_ends[] = {1, -2, 4};
+    STATE(scalar_of(axes, at_ends, 2) == 21845 && scalar_of(axes, at_ends, 3) == 0);
+    int32_t scalar = KEPT;
+    static const uint8_t bytes[13] = {0};
+    const fty_view region = {bytes, 12}, longer = {bytes, 13};
+    STATE(fty_region_scalar(region, at, 1, &scalar) == FTY_OUT_OF_BOUNDS
+          && fty_region_scalar(region, at, 3, &scalar) == FTY_OUT_OF_BOUNDS
+          && fty_region_scalar(longer, at, 2, &scalar) == FTY_OUT_OF_BOUNDS
+          && fty_region_scalar(fty_absent(), NULL, 0, &scalar) == FTY_OUT_OF_BOUNDS
+          && fty_region_scalar(region, at, SIZE_MAX / 6 + 3, &scalar) == FTY_OUT_OF_BOUNDS
+          && scalar == KEPT);
+}
+
 static void values_of_opentype(void) {
     FIELD_OF(u8, "\x87", 135);                             /* gvar, packed deltas: 8 zeros */
     FIELD_OF(i8, "\xC6", -58);                             /* gvar, packed deltas */
@@ -167,6 +224,7 @@ static void values_of_opentype(void) {
           && fty_span_from(three, 4).bytes == NULL && fty_span_from(three, 3).bytes == lists + 3);
     STATE(fty_written(three, last).length == 1 && fty_written(three, last).bytes == lists
           && fty_written(last, three).bytes == NULL && fty_written(gsub, other).bytes == NULL);
+    scalars_of_regions();
     uint16_t kept = KEPT;
     STATE(fty_read_u16(subtable, 17, &kept) == FTY_OUT_OF_BOUNDS && kept == KEPT);
     STATE(fty_fixed_from_i32(-1000) == -65536000 && fty_sub_i32(1000, 400) == 600

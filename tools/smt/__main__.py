@@ -5,8 +5,8 @@
 
 `--checked` compiles with checks of overflow and debug assertions, and so shows that none of them
 fails. Without it, the build has neither, like a release build. `--target` compiles for another
-target, whose `std` rustc must have, and whose code is not run. `--exhaustive` adds the rows of each
-number of fraction bits. `--mutants` tries wrong Rust. `--solver` asks another solver, which reads
+target, whose `std` rustc must have, and whose code is not run. `--exhaustive` adds the long rows and
+those of each number of fraction bits. `--mutants` tries wrong Rust. `--solver` asks another solver, which reads
 SMT-LIB, of each goal and lemma that Z3 refutes, and of each term whether it is what Z3 simplified
 it to. It fails if that solver finds values, and names the rows and lemmas of which it decides
 something not."""

@@ -7,7 +7,7 @@ from typing import NamedTuple
 import z3
 from z3 import BitVecRef, BoolRef
 
-from values import NO, extend, is_constant
+from values import NO, YES, extend, is_constant
 
 Operation = Callable[[BitVecRef, BitVecRef], BitVecRef]
 
@@ -17,11 +17,12 @@ class Quotient(NamedTuple):
     divisor: BitVecRef
 
 
-def order(factor: BitVecRef) -> tuple[bool, int]:
-    """Orders two factors: an argument first, so that a product of it and of a term, which may be
-    written in two ways, is one function of both."""
+def order(factor: BitVecRef) -> tuple[bool, bool, int]:
+    """Orders two factors: an argument first, or else what a function gives, so that a product of it
+    and of a term, which may be written in two ways, is one function of both."""
     of = factor.arg(0) if z3.is_app_of(factor, z3.Z3_OP_SIGN_EXT) else factor
-    return not z3.is_const(of), int(z3.simplify(factor).hash())
+    is_given = z3.is_app_of(of, z3.Z3_OP_UNINTERPRETED)
+    return not z3.is_const(of), not is_given, int(z3.simplify(factor).hash())
 
 
 class Arithmetic:
@@ -45,6 +46,8 @@ class Arithmetic:
             return int(bits.as_long())
         if z3.is_app_of(bits, z3.Z3_OP_ZERO_EXT):
             return self.greatest(bits.arg(0))
+        if z3.is_app_of(bits, z3.Z3_OP_ITE):
+            return max(self.greatest(bits.arg(1)), self.greatest(bits.arg(2)))
         if z3.is_app_of(bits, z3.Z3_OP_CONCAT) and z3.is_true(z3.simplify(bits.arg(0) == 0)):
             return int((1 << bits.size() - bits.arg(0).size()) - 1)
         return int((1 << bits.size()) - 1)
@@ -123,7 +126,7 @@ class Arithmetic:
 
     def divide(self, n: BitVecRef, d: BitVecRef) -> BitVecRef:
         """The quotient q of unsigned numbers: if d is not 0, then q <= n and q d <= n < q d + d,
-        where the product does not wrap, because it is at most n."""
+        where the product does not wrap, because it is at most n. If n is less than d, it is 0."""
         if self.exact or is_constant(d):
             return self.narrowed(z3.UDiv, n, d)
         q, is_new = self.unknown("quotient", z3.UDiv, n, d, self.greatest(n))
@@ -131,8 +134,8 @@ class Arithmetic:
             self.quotients.append(Quotient(q, d))
             product = self.multiply(q, d)
             whole = z3.And(z3.ULE(product, n), z3.ULT(n - product, d), z3.ULE(q, n))
-            self.facts.append(z3.Implies(d != 0, whole))
-            self.add_nearest(product, n, d)
+            self.facts += [z3.Implies(d != 0, whole), z3.Implies(z3.ULT(n, d), q == 0)]
+            self.add_nearest(q, product, n, d)
         return q
 
     def narrowed(self, operation: Operation, n: BitVecRef, d: BitVecRef) -> BitVecRef:
@@ -146,14 +149,24 @@ class Arithmetic:
         most = high // by if operation is z3.UDiv else by - 1
         return self.keep(z3.ZeroExt(width - bits, low), most)
 
-    def add_nearest(self, product: BitVecRef, n: BitVecRef, d: BitVecRef) -> None:
-        """The lemma NEAREST, if n is the sum of a number a and of floor(d / 2), and cannot wrap."""
+    def add_nearest(self, q: BitVecRef, product: BitVecRef, n: BitVecRef, d: BitVecRef) -> None:
+        """The lemma NEAREST, if n is the sum of a number a and of floor(d / 2), and does not wrap.
+        The lemma PART too, if a is a product that does not wrap."""
         for a, half in (n.children(), n.children()[::-1]) if z3.is_app_of(n, z3.Z3_OP_BADD) else ():
+            if not half.eq(z3.LShR(d, 1)):
+                continue
             fits = self.greatest(a) + self.greatest(half) < 1 << n.size()
-            if half.eq(z3.LShR(d, 1)) and fits:
-                m, a, wide = (z3.ZeroExt(2, it) for it in (product, a, d))
-                near = z3.And(2 * (m - a) <= wide, 2 * (a - m) < wide)
-                self.facts.append(z3.Implies(d != 0, near))
+            is_sum = z3.And(d != 0, YES if fits else z3.ULE(a, n))
+            m, of, wide = (z3.ZeroExt(2, it) for it in (product, a, d))
+            near = z3.And(2 * (m - of) <= wide, 2 * (of - m) < wide)
+            self.facts.append(z3.Implies(is_sum, near))
+            factors = next((it[2:] for it in self.nodes if it[0].eq(a)), ())
+            both = [*zip(factors, factors[::-1])]
+            most = (1 << n.size()) - 1
+            fit = z3.Or([z3.ULE(x, most // self.greatest(part)) for x, part in both])
+            for x, part in both:
+                is_part = z3.And(is_sum, fit, z3.ULE(part, d))
+                self.facts.append(z3.Implies(is_part, z3.ULE(q, x)))
 
     def contradicted(self, values: list[tuple[BitVecRef, BitVecRef]]) -> BoolRef | None:
         """Returns a fact that is false of the real products and quotients of these arguments."""
@@ -175,6 +188,12 @@ def lemmas() -> Iterator[tuple[str, BoolRef]]:
     # The multiple m of d by the quotient of a + floor(d / 2) and d is the nearest to a, upward.
     yield "NEAREST", z3.Implies(
         z3.And(d > 0, 2 * h <= d, d <= 2 * h + 1, m <= a + h, a + h < m + d), is_nearest(m)
+    )
+    # If p is at most d, then x p / d is at most x: if q were x + 1 + r, its multiple of d would exceed
+    # a = x p, which is at most x d, by d or more.
+    xd, rd = z3.Ints("xd rd")
+    yield "PART", z3.Implies(
+        z3.And(d > 0, rd >= 0, a <= xd, m == xd + d + rd), z3.Not(is_nearest(m))
     )
     # Only one multiple is nearest, so that "a nearest" is "the nearest".
     yield "UNIQUE", z3.Implies(

@@ -10,7 +10,7 @@ from typing import NamedTuple
 from rows.row import Case
 
 # How a slice of unknown length is passed: the type of its elements.
-SLICES = {"bytes": "u8", "room": "u8", "terms": "(Fixed, i32)"}
+SLICES = {"bytes": "u8", "room": "u8", "terms": "(Fixed, i32)", "coordinates": "F2Dot14"}
 # The other package, which calls this one by its name.
 VARIATIONS = """
 extern crate self as font_types_proved;

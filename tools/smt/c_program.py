@@ -21,17 +21,21 @@ WRAPPER = (
 )
 
 
+POINTERS = {"bytes": "const uint8_t *", "room": "uint8_t *", "coordinates": "const int16_t *"}
+
+
 def wrapper(case: Case) -> str:
     """Returns two functions of C: one of the arguments, which is proved, and one of a row of
     numbers, by which Python or a program calls it."""
     parameters, given, view = [], [], ""
     for name, type_ in case.parameters:
-        if type_ in ("bytes", "room"):
-            pointer = "uint8_t *" if type_ == "room" else "const uint8_t *"
+        if type_ in POINTERS:
+            pointer = POINTERS[type_]
             parameters += [f"{pointer}{name}", f"size_t {name}_length"]
             given += [f"({pointer})(uintptr_t)", "(size_t)"]
             kind = "fty_span span" if type_ == "room" else "fty_view view"
-            view = view or f"const {kind} = {{{name}, {name}_length}}; "
+            if type_ != "coordinates":
+                view = view or f"const {kind} = {{{name}, {name}_length}}; "
         else:
             parameters.append(f"{in_c(type_)} {name}")
             given.append(f"({in_c(type_)})")
@@ -54,7 +58,7 @@ static const struct {
 
 def program() -> str:
     def given(case: Case) -> str:
-        letters = {"bytes": "s", "room": "s", "size": "z"}
+        letters = {"bytes": "s", "room": "s", "size": "z", "coordinates": "c"}
         return "".join(letters.get(it, "n") for _, it in case.parameters)
 
     table = (f'    {{"{it.name}", "{given(it)}", call_{it.symbol}}},\n' for it in ROWS)
@@ -66,6 +70,7 @@ CONSTANT = """constexpr {0}constexpr uint64_t fold_{1}() {{
     uint64_t sum = 0;
     for (uint64_t k = 0; k < 64; k++) {{
         uint8_t bytes[9] = {{1, 2, 253, 4, 5, 6, 7, 8, 9}}, *const text = bytes;
+        const int16_t coordinates[] = {{-500, 1000}};
         sum = sum * 31 + static_cast<uint64_t>({1}({2}));
         for (const uint8_t byte : bytes)
             sum = sum * 31 + byte;
@@ -89,7 +94,11 @@ def constants(run_only: set[str]) -> tuple[str, set[str]]:
         # C++ leaves an enum undefined that has more bits than its values.
         number = "k / 4" if "(fty_status)" in it.body else "k % 3 ? k / 3 : ~k / (k + 1)"
         given = (
-            "text, k % 10" if type_ in ("bytes", "room") else f"({in_c(type_)})({number})"
+            "coordinates, k % 3"
+            if type_ == "coordinates"
+            else "text, k % 10"
+            if type_ in POINTERS
+            else f"({in_c(type_)})({number})"
             for _, type_ in it.parameters
         )
         function = re.sub(r"(\w+_t it);", r"\1 = 0;", wrapper(it).split("void call_")[0])

@@ -16,11 +16,12 @@ from values import Address, Number, Value, constant
 # Numbers by the name of a parameter; of a slice, its bytes.
 Given = dict[str, Union[int, bytes]]
 
-# Of how many bits an address and a length are.
-POINTER = 64
+# Of how many bits an address and a length are, and whether the first byte of a number is the
+# highest.
+POINTER, IS_BIG = 64, False
 
 # The size and the alignment of an element of a slice.
-ELEMENTS = {"bytes": (1, 1), "room": (1, 1), "terms": (8, 4)}
+ELEMENTS = {"bytes": (1, 1), "room": (1, 1), "terms": (8, 4), "coordinates": (2, 2)}
 
 
 class Inputs(NamedTuple):
@@ -33,9 +34,9 @@ class Inputs(NamedTuple):
     variables: dict[str, BitVecRef]
 
 
-def use_pointers(width: int) -> None:
-    global POINTER
-    POINTER = width
+def use_target(pointer: int, is_big: bool) -> None:
+    global POINTER, IS_BIG
+    POINTER, IS_BIG = pointer, is_big
 
 
 def width_of(type_: str) -> int:
@@ -82,7 +83,7 @@ def slice_of(made: Inputs, name: str, type_: str, value: int | bytes | None) -> 
         count = made.variables[f"{name}_length"] = z3.BitVec(f"{name}_length", 64)
         byte = z3.Function(name, z3.BitVecSort(64), z3.BitVecSort(8))
         made.conditions.append(z3.ULE(count, ((1 << POINTER - 1) - 1) // size))
-    text = Text(z3.simplify(count * size), byte, count)
+    text = Text(z3.simplify(count * size), byte, count, IS_BIG)
     # Only a room is behind `&mut`.
     made.memory[name] = Slice(text.length, align, byte, type_ != "room")
     passed = z3.simplify(z3.Extract(POINTER - 1, 0, count))
@@ -110,7 +111,7 @@ def chosen(case: Case, chance: random.Random) -> Given:
     for name, type_ in case.parameters:
         if type_ in ELEMENTS:
             letters = [0, 0x1F, 0x20, 0x41, 0x7E, 0x7F, 0xFF, chance.getrandbits(8)]
-            count = chance.choice([0, 1, 2, 3, 4, 5, 9]) * ELEMENTS[type_][0]
+            count = chance.choice([0, 1, 2, 3, 4, 5, 6, 9, 12]) * ELEMENTS[type_][0]
             given[name] = bytes(chance.choices(letters, k=count))
             continue
         width = width_of(type_)

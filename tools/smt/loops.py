@@ -25,12 +25,13 @@ class Head(NamedTuple):
     entered: Names
     counts: dict[str, int]
     memory: Objects
+    before: int
 
 
 class Loops:
     """A loop ends, because k is less than the number of terms before each turn, and a turn is of one
     term. It stores nothing. The invariant: each name that no turn adds a constant to has F(k), or
-    its low bits, which is within its bounds, and not the last."""
+    its low bits, which is within its bounds."""
 
     def __init__(self, goals: Goals, products: Products) -> None:
         self.goals, self.products = goals, products
@@ -51,9 +52,11 @@ class Loops:
             if any(state.memory.get(name) is not it for name, it in head.memory.items()):
                 raise Unsupported("a loop that stores")
             return None
+        if not self.goals.possible(state.conditions):
+            return None
         counts = counted(function, block, turns)
         asked, k = self.asked(values, counts), z3.BitVec(f"k{len(self.heads)}", 64)
-        head = Head(asked, k, values, counts, dict(state.memory))
+        head = Head(asked, k, values, counts, dict(state.memory), len(state.conditions))
         self.show(head, constant(0), values, state)
         state.visits[key] = len(self.heads)
         self.heads.append(head)
@@ -85,7 +88,8 @@ class Loops:
         return Number(z3.simplify(bits + low(k * head.counts[name], bits.size())))
 
     def show(self, head: Head, k: BitVecRef, values: Names, state: State) -> None:
-        parts = self.invariant(head, k)
+        """Shows the invariant. Each part that is shown is a condition of the next ones."""
+        parts = []
         for name, it in values.items():
             expected = self.expected(head, name, k)
             if isinstance(it, Address) and isinstance(expected, Address):
@@ -93,8 +97,13 @@ class Loops:
             else:
                 parts.append(number_of(it).bits == number_of(expected).bits)
             parts += [] if isinstance(it, list) else [z3.Not(it.poison)]
-        for part in parts:
-            self.goals.check("the invariant of a loop is false", z3.Not(part), state)
+        shown = state._replace(conditions=[*state.conditions])
+        for part in [*parts, *self.invariant(head, k)]:
+            # Most need nothing of what was before the loop.
+            near = [*shown.conditions[head.before :], z3.Not(part), *self.products.every()]
+            if not self.goals.excluded(near):
+                self.goals.check("the invariant of a loop is false", z3.Not(part), shown)
+            shown.conditions.append(part)
 
     def invariant(self, head: Head, k: BitVecRef) -> list[BoolRef]:
         fold, value = head.asked.fold, head.asked.at(k)
@@ -102,7 +111,7 @@ class Loops:
         if fold.within is not None:
             least, most = fold.within(k)
             found += [least <= value, value <= most]
-        return found if fold.last is None else [*found, value != fold.last]
+        return found
 
     def define(self) -> list[BoolRef]:
         """States F(k + 1) of each head, by the quotients that are known so far, and that each later
@@ -112,6 +121,7 @@ class Loops:
             goes_on = z3.BoolVal(True)
             if fold.last is not None:
                 goes_on = value != fold.last
+                self.state(z3.Implies(z3.Not(goes_on), after == fold.last))
                 ends = z3.And(z3.ULT(head.k, head.asked.count), after == fold.last)
                 self.state(z3.Implies(ends, head.asked.at(head.asked.count) == fold.last))
             for found, condition in fold.step(head.k, value, *head.asked.others):
@@ -121,7 +131,7 @@ class Loops:
     def state(self, fact: BoolRef) -> None:
         if fact.get_id() not in self.known:
             self.known[fact.get_id()] = fact
-            self.products.arithmetic.facts.append(fact)
+            self.products.facts.append(fact)
 
 
 def low(bits: BitVecRef, width: int) -> BitVecRef:

@@ -12,7 +12,7 @@ from rows.cases import Case
 
 from inputs import (
     ELEMENTS, Given, Inputs, byte_of, chosen, inputs, of_model, result_width, run_library, shown,
-    shown_result, use_pointers,
+    shown_result, use_target,
 )  # fmt: skip
 from integers import Integers
 from ir import Module
@@ -78,7 +78,7 @@ class Proof:
         has_64 = case.has("i64", "u64", "size", "room", "bytes")
         has_128 = case.has("i128", "terms") or "i128" in case.returns
         of_32 = 64 if case.name.startswith("Matrix") else 68
-        use_pointers(module.pointer)
+        use_target(module.pointer, module.is_big)
         use_width(200 if has_128 else 90 if has_64 else of_32)
 
     def run(self) -> None:
@@ -103,7 +103,7 @@ class Proof:
             for part in right:
                 self.refute(WRONG, end.conditions + [z3.Not(part)])
             conditions = z3.And(end.conditions)
-            is_met = is_met or self.solver(conditions, self.arithmetic.facts).check() == z3.sat
+            is_met = is_met or self.solver(conditions, self.products.every()).check() == z3.sat
         if not is_met:
             raise Unknown("no argument is known for which it returns")
         check_widths([*self.rule(end), *(loops.define() if loops else [])], self.arithmetic)
@@ -146,8 +146,12 @@ class Proof:
         return solver
 
     def is_refuted(self, conditions: list[BoolRef]) -> bool:
-        """Returns whether the conditions exclude each other, read as those of integers."""
-        premises = Integers().premises([*conditions, *self.arithmetic.facts])
+        """Returns whether the conditions exclude each other, read as those of integers. With those
+        of a loop over terms, facts would take long, and say nothing of an index."""
+        every = [*conditions, *self.arithmetic.facts]
+        premises = Integers().premises(
+            map(z3.simplify, conditions) if self.products.asked else every
+        )
         # A solver without tactics may not end.
         solver = z3.Solver()
         solver.set("rlimit", QUICK)
@@ -172,10 +176,10 @@ class Proof:
             return ask(conditions)
         if why != WRONG and OUTSIDE not in why and self.is_refuted(conditions):
             return None
-        solver = self.solver(goal, self.arithmetic.facts)
+        solver = self.solver(goal, self.products.every())
         answer = solver.check()
         if answer == z3.unsat:
-            return ask([*conditions, *self.arithmetic.facts])
+            return ask([*conditions, *self.products.every()])
         if answer == z3.sat:
             for name, it in self.given.variables.items():
                 solver.add(z3.ULE(it, MOST)) if name.endswith("_length") else None

@@ -31,6 +31,7 @@ int main(int count, char **words) {
             uint64_t numbers[28] = {0}, result[2];
             uint8_t *bytes[2] = {NULL, NULL};
             size_t length[2] = {0, 0}, at = 0, texts = 0;
+            int16_t coordinates[5];
             for (const char *it = rows[k].given; *it != 0; it++) {
                 if (*it == 's') {
                     length[texts] = (size_t)(any() % 32);
@@ -40,6 +41,13 @@ int main(int count, char **words) {
                     numbers[at] = (uintptr_t)bytes[texts];
                     at += 2;
                     numbers[at] = length[texts++];
+                } else if (*it == 'c') {
+                    /* As many as the text has axes of 6 bytes. */
+                    for (size_t b = 0; b < 5; b++)
+                        coordinates[b] = (int16_t)any();
+                    numbers[at] = (uintptr_t)coordinates;
+                    at += 2;
+                    numbers[at] = length[0] / 6;
                 } else
                     numbers[at] = any() & (*it == 'z' ? most : UINT64_MAX);
                 at += 2;

@@ -19,7 +19,7 @@ if TYPE_CHECKING:
 
 # What the solver may spend on one goal, and on a goal without facts, in steps that it counts: so a
 # verdict does not depend on the machine, nor on what else it does.
-LIMIT, QUICK = 500_000_000, 1_000_000
+LIMIT, SOON, QUICK = 500_000_000, 20_000_000, 1_000_000
 # The command of another solver, or nothing, and how often it gave each answer.
 SECOND, ANSWERS = list[str](), Counter[str]()
 # For the other solver: terms with what Z3 makes of each; that a term of simple parts differs from
@@ -135,6 +135,16 @@ class Goals:
     def possible(self, conditions: list[BoolRef]) -> bool:
         """Returns whether the conditions may be met."""
         return bool(solved(conditions) != z3.unsat)
+
+    def excluded(self, conditions: list[BoolRef]) -> bool:
+        """Returns whether the solver of bits soon finds that the conditions exclude each other."""
+        solver = z3.SolverFor("QF_UFBV")
+        solver.set("rlimit", SOON)
+        solver.add(*conditions)
+        if solver.check() != z3.unsat:
+            return False
+        ask(conditions)
+        return True
 
     def check(self, why: str, condition: BoolRef, state: State) -> None:
         """The condition must not hold on the path."""

@@ -6,7 +6,7 @@ from collections.abc import Sequence
 import parsing
 import printing
 from build import wrapper
-from rows.cases import CASES, Case
+from rows.cases import CASES, LONG, Case
 from ir import Module
 from parsing import Parsing
 from printing import Printing
@@ -16,9 +16,10 @@ Row = Case | parsing.Row | printing.Row
 
 
 def rows(exhaustive: bool) -> list[Row]:
-    """Returns the rows of each run, or also those of functions that take f, for each f."""
+    """Returns the rows of each run, or also the long ones, and those of functions that take f, for
+    each f."""
     every: list[Row] = [*CASES, *parsing.ROWS, *printing.ROWS]
-    return [*every, *parsing.OF_EACH, *printing.OF_EACH] if exhaustive else every
+    return [*every, *LONG, *parsing.OF_EACH, *printing.OF_EACH] if exhaustive else every
 
 
 def wrappers(some: Sequence[Row]) -> str:

@@ -7,9 +7,15 @@ import z3
 from z3 import BitVecRef
 
 import inputs
-from rows.c_row import FIELDS, OUT_OF_BOUNDS, OUT_OF_RANGE, always, fallible, in_c, row, status
+
+from rows.c_row import (
+    FIELDS, KEPT, OUT_OF_BOUNDS, OUT_OF_RANGE, always, fallible, in_c, row, status,
+)  # fmt: skip
 from rows.cases import Rule
-from rows.rules import Products, S, Text, U, fits_unsigned, stored, together, wrap
+
+from rows.rules import (
+    Products, S, Text, U, fits_unsigned, region_scalar, stored, together, wrap,
+)  # fmt: skip
 from rows.scalars import ZERO
 from values import constant
 
@@ -359,6 +365,21 @@ part("follow", "at: size", "follow(view, at)", lambda p, text, at: (
     at, text.length - at, z3.And(at != 0, z3.ULE(at, text.length))))
 for size in (2, 3, 4):
     part(f"at_offset{8 * size}", "at: size", f"at_offset{8 * size}(view, at)", at_offset(size))
+
+
+# ---------------------------------------------------------------- the scalar of a region
+def region(p: Products, text: Text, at: Text) -> BitVecRef:
+    """Of a region of 6 bytes for each coordinate. Else nothing is stored."""
+    is_fit = U(text.length) == 6 * U(at.count)
+    scalar = region_scalar(p, text, ZERO, at.count, lambda k: at.held(2 * k, 2))
+    return z3.Concat(status(is_fit), z3.If(is_fit, scalar, constant(KEPT, 32)))
+
+
+REGION = (f"({{{{ int32_t it = {KEPT}; const uint64_t status = fty_region_scalar({{}}, at,"
+          " at_length, &it); status << 32 | (uint32_t)it; }})")
+row("region_scalar", "text: bytes, at: coordinates", "u64", REGION.format("view"), region)
+row("region_scalar, absent", "at: coordinates", "u64", REGION.format("fty_absent()"),
+    lambda p, at: constant(OUT_OF_BOUNDS << 32 | KEPT))
 
 
 # ---------------------------------------------------------------- copies

@@ -10,6 +10,7 @@ from rows import arrays as arrays
 from rows import exports as exports  # isort: skip
 from rows.row import CASES as CASES
 from rows.row import FORMATS as FORMATS
+from rows.row import LONG as LONG
 from rows.row import Case as Case
 from rows.row import Rule as Rule
 from rows.scalars import written as written

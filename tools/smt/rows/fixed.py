@@ -191,7 +191,7 @@ def exact_sum(p: Products, terms: Text) -> BitVecRef:
     """ "The exact sum" of the products of terms (scalar, delta), of four bytes each. It is at most
     k 2^62 and at least -k 2^62 of k terms, and so exact in 128 bits: k is less than 2^60."""
     def step(k: BitVecRef, before: BitVecRef) -> list[tuple[BitVecRef, BoolRef]]:
-        words = (together(terms.bytes(8 * k + i, 4)[::-1]) for i in (0, 4))
+        words = (terms.held(8 * k + i, 4) for i in (0, 4))
         product = p.arithmetic.multiply(*(z3.SignExt(32, it) for it in words))
         return [(before + z3.SignExt(64, product), z3.BoolVal(True))]
 

@@ -24,6 +24,8 @@ class Case(NamedTuple):
 
 
 CASES: list[Case] = []
+# Rows that need more than a minute, of which the exhaustive run has the proofs.
+LONG: list[Case] = []
 FORMATS = [
     ("Fixed", 32, 16),
     ("F26Dot6", 32, 6),
@@ -36,10 +38,17 @@ FORMATS = [
 
 
 def case(
-    name: str, parameters: str, returns: str, body: str, rule: Rule, is_relation: bool = False
+    name: str,
+    parameters: str,
+    returns: str,
+    body: str,
+    rule: Rule,
+    is_relation: bool = False,
+    is_long: bool = False,
 ) -> None:
     pairs = [(it.split(": ")[0], it.split(": ")[1]) for it in parameters.split(", ")]
-    CASES.append(Case(name, pairs, returns, body, rule, is_relation, f"case{len(CASES)}"))
+    symbol, rows = f"case{len(CASES) + len(LONG)}", LONG if is_long else CASES
+    rows.append(Case(name, pairs, returns, body, rule, is_relation, symbol))
 
 
 def relation(name: str, parameters: str, returns: str, body: str, rule: Rule) -> None:

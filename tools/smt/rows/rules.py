@@ -182,6 +182,12 @@ class Products:
         self.arithmetic = arithmetic
         # The folds that a rule asks for, with how many terms, and the numbers that say which.
         self.asked: dict[tuple[Any, ...], "Asked"] = {}
+        # What is known of their numbers.
+        self.facts: list[BoolRef] = []
+
+    def every(self) -> list[BoolRef]:
+        """Returns the facts of products, of quotients and of folds."""
+        return [*self.arithmetic.facts, *self.facts]
 
     def times(self, x: BitVecRef, y: BitVecRef) -> BitVecRef:
         """The product of two signed numbers of 32 bits, which fits in 64."""
@@ -286,15 +292,21 @@ def together(stored_bytes: Sequence[BitVecRef]) -> BitVecRef:
 
 
 class Text(NamedTuple):
-    """Bytes that a function gets, by their index, and how many elements they are."""
+    """Bytes that a function gets, by their index, how many elements they are, and whether the first
+    byte of a number of the processor is the highest."""
 
     length: BitVecRef
     byte: Callable[[BitVecRef], BitVecRef]
     count: BitVecRef
+    is_big: bool = False
 
     def bytes(self, start: BitVecRef | int, count: int) -> list[BitVecRef]:
         first = z3.BitVecVal(start, 64) if isinstance(start, int) else start
         return [self.byte(z3.simplify(first + i)) for i in range(count)]
+
+    def held(self, start: BitVecRef, count: int) -> BitVecRef:
+        """The number of so many bytes, as the processor holds it."""
+        return together(self.bytes(start, count)[:: 1 if self.is_big else -1])
 
     def has(self, start: BitVecRef, count: int) -> BoolRef:
         """Whether so many bytes are there."""
@@ -327,7 +339,7 @@ class Fold:
             key = self.name, *(it.get_id() for it in (count, *others))
             if key not in self.products.asked:
                 self.products.asked[key] = asked
-                arithmetic.facts.append(asked.at(zero) == self.first)
+                self.products.facts.append(asked.at(zero) == self.first)
             return asked.at(count)
         value = self.first
         for k in range(z3.simplify(count).as_long()):
@@ -349,6 +361,47 @@ class Asked(NamedTuple):
         """Returns F(k)."""
         sorts = [z3.BitVecSort(64)] * (len(self.others) + 1)
         return z3.Function(self.fold.name, *sorts, self.fold.first.sort())(*self.others, k)
+
+
+# ---------------------------------------------------------------- the scalar of a region
+ONE = z3.BitVecVal(1 << 16, 32)
+
+
+def along(
+    p: Products, scalar: BitVecRef, start: BitVecRef, peak: BitVecRef, end: BitVecRef, at: BitVecRef
+) -> list[tuple[BitVecRef, BoolRef]]:
+    """A scalar times that of a region along an axis: 1 at the peak and on an axis that the region
+    ignores, because its coordinates are out of order or on both sides of zero, or the peak is zero.
+    0 outside of the region and at its ends. Else the part of the way to the peak. Rounded once."""
+
+    def distance(a: BitVecRef, b: BitVecRef) -> BitVecRef:
+        """In 16 bits, which hold that of two numbers in order."""
+        return z3.ZeroExt(16, b - a)
+
+    is_ignored = z3.Or(start > peak, peak > end, z3.And(start < 0, end > 0, peak != 0), peak == 0)
+    is_one, is_zero = z3.Or(is_ignored, at == peak), z3.Or(at <= start, at >= end)
+    part = z3.If(at < peak, distance(start, at), distance(at, end))
+    way = z3.If(at < peak, distance(start, peak), distance(peak, end))
+    between = z3.And(z3.Not(is_one), z3.Not(is_zero))
+    found = [(scalar, is_one), (z3.BitVecVal(0, 32), z3.And(z3.Not(is_one), is_zero))]
+    # Of a scalar that is at most 1, the product has 32 bits.
+    for q, is_nearest in p.nearest(p.arithmetic.multiply(scalar, part), way):
+        found.append((wrap(32, q), z3.And(between, is_nearest)))
+    return found
+
+
+def region_scalar(
+    p: Products, text: Text, start: BitVecRef, axes: BitVecRef, at: Callable[[BitVecRef], BitVecRef]
+) -> BitVecRef:
+    """ "The product of the scalars along all axes", rounded after each. Of each axis the region has
+    a start, a peak and an end, and `at` gives the coordinate."""
+
+    def step(k: BitVecRef, before: BitVecRef, first: BitVecRef) -> list[tuple[BitVecRef, BoolRef]]:
+        start, peak, end = (together(text.bytes(first + 6 * k + i, 2)) for i in (0, 2, 4))
+        return along(p, before, start, peak, end, at(k))
+
+    bounds = z3.BitVecVal(0, 32), ONE
+    return Fold(p, "scalar", ONE, step, lambda k: bounds, bounds[0]).of(axes, start)
 
 
 # ---------------------------------------------------------------- tags

@@ -7,34 +7,18 @@ import z3
 from z3 import BitVecRef, BoolRef
 
 from rows.row import case, relation
-from rows.rules import B, Products, Text, scaled, some, together
+from rows.rules import ONE, B, Products, Text, along, region_scalar, some, together
 from rows.scalars import ZERO
 
 # fmt: off
-ONE = z3.BitVecVal(1 << 16, 32)
-
-
 # ---------------------------------------------------------------- the scalar along one axis
-def along(
-    p: Products, start: BitVecRef, peak: BitVecRef, end: BitVecRef, at: BitVecRef, result: BitVecRef
-) -> BoolRef:
-    """1 at the peak and on an axis that a region ignores: its coordinates are out of order or on
-    both sides of zero, or the peak is zero. 0 outside of the region and at its ends. Else the part
-    of the way to the peak, rounded once."""
-    distance = lambda a, b: z3.SignExt(16, b) - z3.SignExt(16, a)
-    is_ignored = z3.Or(start > peak, peak > end, z3.And(start < 0, end > 0, peak != 0), peak == 0)
-    return z3.If(z3.Or(is_ignored, at == peak), result == ONE,
-        z3.If(z3.Or(at <= start, at >= end), result == 0,
-        z3.If(at < peak,
-              scaled(p, distance(start, at), ONE, distance(start, peak), result),
-              scaled(p, distance(at, end), ONE, distance(peak, end), result))))
-
-
 F2 = "F2Dot14::from_bits({})".format
 REGION = (f"RegionAxisCoordinates {{ start_coord: {F2('start')}, peak_coord: {F2('peak')},"
           f" end_coord: {F2('end')} }}")
 relation("RegionAxisCoordinates::scalar", "start: i16, peak: i16, end: i16, x: i16", "i32",
-         f"variations::{REGION}.scalar({F2('x')}).to_bits()", along)
+         f"variations::{REGION}.scalar({F2('x')}).to_bits()",
+         lambda p, *given: z3.Or([z3.And(it, given[-1] == scalar)
+                                  for scalar, it in along(p, ONE, *given[:-1])]))
 
 
 # ---------------------------------------------------------------- indices of delta sets
@@ -146,6 +130,26 @@ for T, rule in (("Avar", is_avar), ("Fvar", is_fvar), ("Hvar", is_hvar),
          lambda p, text, rule=rule: B(rule(text)))
 case("ItemVariationStore::region_count", "text: bytes", "?u16",
      "variations::ItemVariationStore::new(text).map(|it| it.region_count())", region_count)
+
+
+# ---------------------------------------------------------------- the scalar of a region
+def scalar_of_one(p: Products, text: Text, given: Text) -> BitVecRef:
+    """Of the region of a store that has one: 6 bytes for each axis. Past the coordinates that are
+    given, an axis is at its default, which is 0."""
+    fit, regions = regions_of(text, ZERO)
+    count = number(text, regions, 2)
+    is_one = z3.simplify(z3.And(fit, has(text, regions, C(4)), number(text, regions + 2, 2) == 1,
+                                has(text, regions, 4 + 6 * count)))
+    # Of a known store without a region, the count of axes says nothing.
+    axes = ZERO if z3.is_false(is_one) else count
+    at = lambda k: z3.If(z3.ULT(k, given.count), given.held(2 * k, 2), 0)
+    return some(is_one, region_scalar(p, text, regions + 4, axes, at))
+
+
+case("ItemVariationStore::at, of one region", "text: bytes, given: coordinates", "?i32",
+     "{ let mut scalars = [Fixed::ZERO]; variations::ItemVariationStore::new(text)"
+     ".filter(|it| it.region_count() == 1).and_then(|it| it.at(given, &mut scalars))"
+     ".and_then(|it| it.scalar(0)).map(Fixed::to_bits) }", scalar_of_one, is_long=True)
 case("Fvar::axis_count", "text: bytes", "?u16",
      "variations::Fvar::new(text).map(|it| it.axis_count())",
      lambda p, text: some(is_fvar(text), z3.Extract(15, 0, number(text, 8, 2))))
