@@ -163,7 +163,7 @@ class Arithmetic:
             factors = next((it[2:] for it in self.nodes if it[0].eq(a)), ())
             both = [*zip(factors, factors[::-1])]
             most = (1 << n.size()) - 1
-            fit = z3.Or([z3.ULE(x, most // self.greatest(part)) for x, part in both])
+            fit = z3.Or([z3.ULE(x, most // max(self.greatest(part), 1)) for x, part in both])
             for x, part in both:
                 is_part = z3.And(is_sum, fit, z3.ULE(part, d))
                 self.facts.append(z3.Implies(is_part, z3.ULE(q, x)))
@@ -189,8 +189,8 @@ def lemmas() -> Iterator[tuple[str, BoolRef]]:
     yield "NEAREST", z3.Implies(
         z3.And(d > 0, 2 * h <= d, d <= 2 * h + 1, m <= a + h, a + h < m + d), is_nearest(m)
     )
-    # If p is at most d, then x p / d is at most x: if q were x + 1 + r, its multiple of d would exceed
-    # a = x p, which is at most x d, by d or more.
+    # If p is at most d, then x p / d is at most x: if it were x + 1 + r, its multiple of d would
+    # exceed a = x p, which is at most x d, by d or more.
     xd, rd = z3.Ints("xd rd")
     yield "PART", z3.Implies(
         z3.And(d > 0, rd >= 0, a <= xd, m == xd + d + rd), z3.Not(is_nearest(m))

@@ -111,7 +111,8 @@ def chosen(case: Case, chance: random.Random) -> Given:
     for name, type_ in case.parameters:
         if type_ in ELEMENTS:
             letters = [0, 0x1F, 0x20, 0x41, 0x7E, 0x7F, 0xFF, chance.getrandbits(8)]
-            count = chance.choice([0, 1, 2, 3, 4, 5, 6, 9, 12]) * ELEMENTS[type_][0]
+            counts = [0, 1, 2] if type_ == "coordinates" else [0, 1, 2, 3, 4, 5, 6, 9, 12]
+            count = chance.choice(counts) * ELEMENTS[type_][0]
             given[name] = bytes(chance.choices(letters, k=count))
             continue
         width = width_of(type_)

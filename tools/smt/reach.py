@@ -15,7 +15,9 @@ OPTIONS = """--crate-type lib -C opt-level=0 -C no-prepopulate-passes -C debugin
 # A file, its line, and numbers of fraction bits of the types in the name.
 Called = tuple[str, int, list[int]]
 CALL = r"^  (?:\S+ = )?(?:call|invoke) [^@]*@(\w+)"
-FILE = re.compile(r'^(!\d+) = !DIFile\(filename: "[^"]*/(?:src|c)/generated/([^"]*)"', re.M)
+FILE = re.compile(
+    r'^(!\d+) = !DIFile\(filename: "[^"]*/(?:src|c|variations)/generated/([^"]*)"', re.M
+)
 # A closure of a wrapper, and the length of the wrapper's name, with what begins with the name.
 CLOSURE = re.compile(r"_R(?:NC)+\w*?8wrappers(\d+)(\w+)")
 FUNCTION = re.compile(r'[nN]ame: "(\w+)", scope: !\d+, file: (!\d+), line: (\d+)')

@@ -14,6 +14,7 @@ from collections.abc import Iterator
 ROOT = pathlib.Path(__file__).resolve().parents[2]
 SOURCE = ROOT / "src/generated"
 EXPORTS = ROOT / "c/src/generated"
+VARIATIONS = ROOT / "variations/src/generated"
 
 # Of a type with formats, the fraction bits of each.
 FORMATS = collections.defaultdict[str, set[int]](set)
@@ -43,6 +44,9 @@ class Function:
         head = re.sub(r"^(pub )?(impl|trait)(<[^{]*?>(?= ))? ", "", outer).split(" where")[0]
         _, _, type_ = head.split(": ")[0].rpartition(" for ")
         self.type = re.sub(r"<.*", "", type_.removeprefix("&").strip())
+        self.name = "::".join(
+            [self.type] * bool(self.type) + re.findall(r"fn (\w+)", signature)[:1]
+        )
 
     def place(self, calls: dict[tuple[str, int], set[int]]) -> str | None:
         """Returns whether rows call the function, of a type of several formats with each, or the
@@ -52,10 +56,10 @@ class Function:
         return next((rule for rule, it in RULES.items() if re.search(it, self.text)), None)
 
 
-def functions() -> Iterator[Function]:
-    """Yields the public functions of the library that have a body."""
-    exports = set(re.findall(r"\w+", (SOURCE / "font_types/mod.rs").read_text()))
-    for path in sorted(SOURCE.rglob("*.rs")):
+def functions(source: pathlib.Path = SOURCE, of: str = "font_types/mod.rs") -> Iterator[Function]:
+    """Yields the public functions of a package that have a body."""
+    exports = set(re.findall(r"\w+", (source / of).read_text()))
+    for path in sorted(source.rglob("*.rs")):
         lines, outer = path.read_text().splitlines(), ""
         for number, line in enumerate(lines) if path.name != "definitions.rs" else ():
             if re.match(r"(pub )?(impl|trait)\b", line):
@@ -66,7 +70,7 @@ def functions() -> Iterator[Function]:
             found = re.match(r"(pub )?(const )?fn (\w+)[^{;]*(?:\[[^\]]*\][^{;]*)*{", text)
             if found and (found[1] or " for " in outer or outer.startswith("pub trait")):
                 hidden = "" if outer or found[3] in exports else "NOT EXPORTED "
-                yield Function(path.relative_to(SOURCE), number + 1, outer, hidden + found[0])
+                yield Function(path.relative_to(source), number + 1, outer, hidden + found[0])
 
 
 def exports() -> Iterator[tuple[str, str, tuple[str, int]]]:
@@ -106,6 +110,15 @@ class SecondProof(unittest.TestCase):
         page = (ROOT / "docs/EVIDENCE.md").read_text()
         self.assertEqual([rule for rule in RULES if rule not in page], [])
 
+    def test_each_function_of_variations_has_a_row(self) -> None:
+        """Those without a row are listed by EVIDENCE, or outside by another rule than of arrays."""
+        known, others = calls(), [it for it in RULES.values() if it != SLICES]
+        every = [it for it in functions(VARIATIONS, "mod.rs") if it.at not in known]
+        without = {it.name for it in every if not any(re.search(of, it.text) for of in others)}
+        page = (ROOT / "docs/EVIDENCE.md").read_text()
+        listed = page.split("of variations, what these do:")[1].split(";")[0]
+        self.assertEqual(sorted(without), sorted(re.findall(r"`(\w+::\w+)`", listed)))
+
     def test_each_export_of_numbers_has_a_row(self) -> None:
         """Those without a row take an array, or nothing. EVIDENCE lists them."""
         known, every = calls(), list(exports())
@@ -122,3 +135,5 @@ class SecondProof(unittest.TestCase):
 if __name__ == "__main__":
     for place, count in collections.Counter(it.place(calls()) for it in functions()).most_common():
         print(count, place)
+    rows = [it.at in calls() for it in functions(VARIATIONS, "mod.rs")]
+    print(f"of variations, {sum(rows)} of {len(rows)} have a row")
