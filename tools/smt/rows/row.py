@@ -47,8 +47,8 @@ def case(
     is_long: bool = False,
 ) -> None:
     pairs = [(it.split(": ")[0], it.split(": ")[1]) for it in parameters.split(", ")]
-    symbol, rows = f"case{len(CASES) + len(LONG)}", LONG if is_long else CASES
-    rows.append(Case(name, pairs, returns, body, rule, is_relation, symbol))
+    rows, kind = (LONG, "long") if is_long else (CASES, "case")
+    rows.append(Case(name, pairs, returns, body, rule, is_relation, f"{kind}{len(rows)}"))
 
 
 def relation(name: str, parameters: str, returns: str, body: str, rule: Rule) -> None:
