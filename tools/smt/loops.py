@@ -16,9 +16,9 @@ COUNTED = re.compile(r"(?:(?:n[us]w )*i\d+ (\S+),|(?:[a-z]+ )*(i\d+), ptr (\S+),
 
 
 class Head(NamedTuple):
-    """The head of a loop that does a term of a fold a turn, after the first k: what each name had at
-    the start, by how much a turn changes those that count, and the memory. The fold is guessed: a
-    wrong guess has a false invariant."""
+    """The head of a loop that does a term of a fold a turn, after the first k: what each name had
+    at first, by how much a turn changes those that count, the memory, and how many conditions were
+    known. The fold is guessed: a wrong guess has a false invariant."""
 
     asked: Asked
     k: BitVecRef
@@ -29,9 +29,9 @@ class Head(NamedTuple):
 
 
 class Loops:
-    """A loop ends, because k is less than the number of terms before each turn, and a turn is of one
-    term. It stores nothing. The invariant: each name that no turn adds a constant to has F(k), or
-    its low bits, which is within its bounds."""
+    """A loop ends, because k is less than the number of terms before each turn, and a turn is of
+    one term. It stores nothing. The invariant: each name that no turn adds a constant to has F(k),
+    or its low bits. F(k) is within its bounds and, if the fold stops, not the last."""
 
     def __init__(self, goals: Goals, products: Products) -> None:
         self.goals, self.products = goals, products
@@ -111,7 +111,7 @@ class Loops:
         if fold.within is not None:
             least, most = fold.within(k)
             found += [least <= value, value <= most]
-        return found
+        return [*found, value != fold.last] if fold.stops else found
 
     def define(self) -> list[BoolRef]:
         """States F(k + 1) of each head, by the quotients that are known so far, and that each later

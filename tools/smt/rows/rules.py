@@ -316,8 +316,8 @@ class Text(NamedTuple):
 class Fold:
     """A number F(k) of k terms, and of numbers that say which terms: F(0) is `first`. If F(k) is
     `last`, each later one is. Else `step` gives numbers, each with a condition under which it is
-    F(k + 1), of k, F(k) and the numbers. `within` gives numbers that F(k), signed, is between; so
-    has each loop that computes it to show."""
+    F(k + 1), of k, F(k) and the numbers. If it `stops`, a loop has to stop at `last`. `within`
+    gives numbers that F(k), signed, is between; so has each loop that computes it to show."""
 
     def __init__(
         self,
@@ -327,9 +327,10 @@ class Fold:
         step: Callable[..., list[tuple[BitVecRef, BoolRef]]],
         within: Callable[[BitVecRef], tuple[BitVecRef, BitVecRef]] | None = None,
         last: BitVecRef | None = None,
+        stops: bool = False,
     ) -> None:
         self.products, self.name, self.first, self.step = products, name, first, step
-        self.within, self.last = within, last
+        self.within, self.last, self.stops = within, last, stops
 
     def of(self, count: BitVecRef, *others: BitVecRef) -> BitVecRef:
         """Returns F(count)."""
@@ -391,17 +392,18 @@ def along(
 
 
 def region_scalar(
-    p: Products, text: Text, start: BitVecRef, axes: BitVecRef, at: Callable[[BitVecRef], BitVecRef]
-) -> BitVecRef:
+    p: Products, text: Text, start: BitVecRef, axes: BitVecRef,
+    at: Callable[[BitVecRef], BitVecRef], stops: bool = False,
+) -> BitVecRef:  # fmt: skip
     """ "The product of the scalars along all axes", rounded after each. Of each axis the region has
-    a start, a peak and an end, and `at` gives the coordinate."""
+    a start, a peak and an end, and `at` gives the coordinate. What is 0 stays 0."""
 
     def step(k: BitVecRef, before: BitVecRef, first: BitVecRef) -> list[tuple[BitVecRef, BoolRef]]:
         start, peak, end = (together(text.bytes(first + 6 * k + i, 2)) for i in (0, 2, 4))
         return along(p, before, start, peak, end, at(k))
 
     bounds = z3.BitVecVal(0, 32), ONE
-    return Fold(p, "scalar", ONE, step, lambda k: bounds, bounds[0]).of(axes, start)
+    return Fold(p, "scalar", ONE, step, lambda k: bounds, bounds[0], stops).of(axes, start)
 
 
 # ---------------------------------------------------------------- tags

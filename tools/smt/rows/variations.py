@@ -143,7 +143,7 @@ def scalar_of_one(p: Products, text: Text, given: Text) -> BitVecRef:
     # Of a known store without a region, the count of axes says nothing.
     axes = ZERO if z3.is_false(is_one) else count
     at = lambda k: z3.If(z3.ULT(k, given.count), given.held(2 * k, 2), 0)
-    return some(is_one, region_scalar(p, text, regions + 4, axes, at))
+    return some(is_one, region_scalar(p, text, regions + 4, axes, at, True))
 
 
 case("ItemVariationStore::at, of one region", "text: bytes, given: coordinates", "?i32",
