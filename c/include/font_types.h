@@ -109,10 +109,10 @@
 #endif
 
 /** The version of this header. */
-#define FTY_VERSION "0.12.0"
+#define FTY_VERSION "0.13.0"
 
 /** The same as a number, major << 16 | minor << 8 | patch: later versions are greater. */
-#define FTY_VERSION_NUMBER 0x000C00
+#define FTY_VERSION_NUMBER 0x000D00
 
 /** @cond */
 #ifdef __cplusplus

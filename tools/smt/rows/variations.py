@@ -146,9 +146,9 @@ def scalar_of_one(p: Products, text: Text, given: Text) -> BitVecRef:
     return some(is_one, region_scalar(p, text, regions + 4, axes, at, True))
 
 
-case("ItemVariationStore::at, of one region", "text: bytes, given: coordinates", "?i32",
+case("ItemVariationStore::instance, of one region", "text: bytes, given: coordinates", "?i32",
      "{ let mut scalars = [Fixed::ZERO]; variations::ItemVariationStore::new(text)"
-     ".filter(|it| it.region_count() == 1).and_then(|it| it.at(given, &mut scalars))"
+     ".filter(|it| it.region_count() == 1).and_then(|it| it.instance(given, &mut scalars))"
      ".and_then(|it| it.scalar(0)).map(Fixed::to_bits) }", scalar_of_one, is_long=True)
 case("Fvar::axis_count", "text: bytes", "?u16",
      "variations::Fvar::new(text).map(|it| it.axis_count())",

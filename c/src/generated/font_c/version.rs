@@ -5,5 +5,5 @@
 /// Returns the version as `major << 16 | minor << 8 | patch`.
 #[unsafe(no_mangle)]
 pub extern "C" fn fty_version() -> u32 {
-    0x00_0C00
+    0x00_0D00
 }
