@@ -83,11 +83,12 @@ def array_of(kind: Kind) -> None:
          f"{taken} {of('taken', 'it.get(i)')}{get} }}",
          lambda p, text, n, i: some(
              z3.And(has(text, ZERO, n, size), z3.ULT(i, n)), element(kind, text, ZERO, i)))
+    # In the checked build, a quotient by 3 takes minutes.
     case(f"{T}::take_from, rest", f"text: bytes, n: size, {I}", "?u8",
          f"{taken} let _ = taken; rest{BYTE} }}",
          lambda p, text, n, i: (lambda start: some(
              z3.ULT(i, text.length - start), text.byte(start + i)
-         ))(z3.If(has(text, ZERO, n, size), n * size, ZERO)))
+         ))(z3.If(has(text, ZERO, n, size), n * size, ZERO)), is_long=size == 3)
 
 
 # ---------------------------------------------------------------- fields
