@@ -105,8 +105,9 @@ impl<'a> Advances<'a> {
         let (hvar, store) = (self.hvar?, self.hvar?.store());
         let mut scalars = vec![Fixed::ZERO; store.region_count().into()];
         let instance = store.instance(coordinates, &mut scalars)?;
-        let vary =
-            |glyph| instance.vary_advance(advance_of(self.metrics, glyph)?, hvar.advance_set(glyph)?);
+        let vary = |glyph| {
+            instance.vary_advance(advance_of(self.metrics, glyph)?, hvar.advance_set(glyph)?)
+        };
         Some((0..self.glyph_count).map(GlyphId16::new).map(vary).collect())
     }
 }
