@@ -14,7 +14,7 @@ FETCHED := $(if $(FONT_TYPES_DIR),--offline --config 'patch.crates-io.font-types
 # A file for what a step prints. /dev/stderr may be of another user, whom su or sudo left.
 log = log=$$(mktemp); trap 'rm "$$log"' EXIT
 
-STEPS := rust pages lints workspaces tools smt smt-checked mir c compare compared
+STEPS := c rust pages lints workspaces tools smt smt-checked mir compare compared
 .PHONY: check $(STEPS)
 
 check:
