@@ -24,6 +24,11 @@ def of(made: str, body: str) -> str:
 
 
 # ---------------------------------------------------------------- arrays of scalars
+# Of each number of bytes, all functions of arrays. What differs in other types is how an element is
+# decoded, which the rows of fields have too.
+WIDTHS = ("u8", "u16", "Uint24", "u32", "i64")
+
+
 def count(length: BitVecRef, size: int) -> BitVecRef:
     """How many elements so many bytes hold."""
     return z3.UDiv(length, z3.BitVecVal(size, 64))
@@ -43,7 +48,8 @@ def elements_of(kind: Kind) -> None:
     case(f"ScalarArray::<{kind.name}>::read_at", f"text: bytes, at: size, n: size, {I}",
          f"?{kind.result}", of(f"ScalarArray::<{kind.type}>::read_at(text, at, n)",
                                f"it.get(i).map(|it| it{kind.get})"), lambda p, text, at, n, i: some(
-             z3.And(has(text, at, n, kind.size), z3.ULT(i, n)), element(kind, text, at, i)))
+             z3.And(has(text, at, n, kind.size), z3.ULT(i, n)), element(kind, text, at, i)),
+         is_long=kind.name not in WIDTHS)
 
 
 def array_of(kind: Kind) -> None:
@@ -139,9 +145,6 @@ def order(x: BitVecRef, y: BitVecRef) -> BitVecRef:
 
 for kind in SCALARS:
     field_of(kind)
-# Of each number of bytes, all functions of arrays; what differs in other types is how an element is
-# decoded.
-WIDTHS = ("u8", "u16", "Uint24", "u32", "i64")
 for kind in SCALARS:
     elements_of(kind)
     if kind.name in WIDTHS:

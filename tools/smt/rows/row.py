@@ -24,7 +24,7 @@ class Case(NamedTuple):
 
 
 CASES: list[Case] = []
-# Rows that need more than a minute, of which the exhaustive run has the proofs.
+# Rows that need more than a minute, or say of other types the same: `--exhaustive` adds them.
 LONG: list[Case] = []
 FORMATS = [
     ("Fixed", 32, 16),
