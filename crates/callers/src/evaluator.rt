@@ -1,6 +1,6 @@
 //! An evaluator of variations: from the settings of axes to an advance.
 
-ghost use Rattle.std.specs.Prelude.{◌≡◌, ◌⊎◌, pos, IfSome, IfNone, length};
+ghost use Rattle.std.specs.Prelude.{◌≡◌, ◌⊎◌, pos, IfSome, IfNone, length, Some};
 ghost use Rattle.std.specs.Option.{option_map};
 ghost use Rattle.font_types.specs.{FWord.ufword_number};
 ghost use Rattle.variations.specs.Advances.{regions_of, subtable_of, HasData};
@@ -27,6 +27,8 @@ pub fn advance_at_settings(
     ensures at { IfSome result (λ _. AreCoordinates axes.entry.0.now.bytes.now
         (option_map (λ avar. avar.now) axes.entry.1.now.bytes) settings.now
         (length coordinates.new) coordinates.new) }
+    ensures unvaried { IsNoVariation set.outer set.inner
+        → IfSome result (λ varied. varied ≡ advance) }
     ensures value { ¬ IsNoVariation set.outer set.inner → IfSome result (λ varied.
         IsVaried (regions_of store.now.bytes.now) (subtable_of store.now.bytes.now set.outer)
         coordinates.new set.inner (ufword_number advance) (pos (ufword_number varied))) }
@@ -35,9 +37,10 @@ pub fn advance_at_settings(
         × HaveCoordinates axes.entry.0.now.bytes.now
         (option_map (λ avar. avar.now) axes.entry.1.now.bytes)
         × AreOfAxes axes.entry.0.now.bytes.now settings.now))
-        ⊎ ((¬ HasData store.now.bytes.now set.outer set.inner)
+        ⊎ ((¬ IsNoVariation set.outer set.inner)
+        × ((¬ HasData store.now.bytes.now set.outer set.inner)
         ⊎ HasNoVaried (regions_of store.now.bytes.now) (subtable_of store.now.bytes.now set.outer)
-        coordinates.new set.inner (ufword_number advance))) }
+        coordinates.new set.inner (ufword_number advance)))) }
 {
     axes.0.coordinates(axes.1, settings, coordinates).ok()?;
     varied(store, set, advance, coordinates)
@@ -50,10 +53,12 @@ fn varied(
     advance: UfWord,
     coordinates: &[F2Dot14],
 ) -> Option<UfWord>
+    ensures unvaried { IsNoVariation set.outer set.inner → result ≡ Some advance }
     ensures value { ¬ IsNoVariation set.outer set.inner → IfSome result (λ varied.
         IsVaried (regions_of store.now.bytes.now) (subtable_of store.now.bytes.now set.outer)
         coordinates.now set.inner (ufword_number advance) (pos (ufword_number varied))) }
-    ensures none { IfNone result ((¬ HasData store.now.bytes.now set.outer set.inner)
+    ensures none { ¬ IsNoVariation set.outer set.inner → IfNone result
+        ((¬ HasData store.now.bytes.now set.outer set.inner)
         ⊎ HasNoVaried (regions_of store.now.bytes.now) (subtable_of store.now.bytes.now set.outer)
         coordinates.now set.inner (ufword_number advance)) }
 {

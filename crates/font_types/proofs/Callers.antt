@@ -13,7 +13,6 @@ use Rattle.font_types.proofs.SumCalls.{sum_calls_from, sum_calls_16, sum_calls_3
 use Rattle.font_types.proofs.Parts.{part_calls, unit_calls, between_calls, lerp_calls}
 use Rattle.font_types.proofs.{Counts.count_calls, Lines.line_calls, Ratios.ratio_calls}
 use Rattle.font_types.proofs.Ratios.{order_ratio_calls}
-use Rattle.font_types.proofs.Lines.{line_calls}
 use Rattle.font_types.proofs.Narrowed.{exact_narrow_calls, exact_sum_is_integral, negation_is_integral}
 use Rattle.font_types.proofs.{Searches.long_search_calls, Searches.byte_search_calls}
 use Rattle.font_types.proofs.{Searches.search_calls, StoredBytes.stored_calls, Magnitudes.magnitude_calls}
@@ -160,9 +159,10 @@ pub ruleset records_1_3_8 = (other_record_calls)
 -- for a header of four fields of 4 bytes that is encoded, or encoded and decoded, in place of `calls`
 pub ruleset headers = (header_calls)
 
--- for a file of numbers, in place of `calls`: what `calls` has of numbers, and the rulesets of numbers above. A lemma
--- that is named twice counts twice against the limits of a search. So neither this nor `tables` names one twice, nor
--- std's `ints`, which the check names itself in a function whose code computes with signed integers.
+-- for a file of numbers, in place of `calls`: what `calls` has of numbers, and `lerps`, `integers`, `narrowings`,
+-- `orders`, `ties` and `shifts`. A lemma that is named twice counts twice against the limits of a search. So neither
+-- this nor `tables` names one twice, nor std's `ints`, which the check names itself in a function whose code computes
+-- with signed integers.
 pub ruleset numbers = (
   fixed_calls,
   calls_16,
@@ -192,8 +192,8 @@ pub ruleset numbers = (
 )
 
 -- for a file of bytes, in place of `calls`: what `calls` has of scalars, records, arrays, searches, tags and versions,
--- the rulesets of bytes above, second fields, and sums of 16-bit numbers. Fields have 1, 2, 3, 4 or 8 bytes, and rests
--- begin at 1, 3, or an even number up to 16.
+-- `records_1_3_8`, `writes`, `firsts_24`, `rests` and `follows`, second fields, and sums of 16-bit numbers. Fields have
+-- 1, 2, 3, 4 or 8 bytes, and rests begin at 1, 3, or an even number up to 16.
 pub ruleset tables = (
   scalar_calls,
   search_calls,
@@ -258,7 +258,6 @@ pub ruleset tag_laws = (
   validated_good,
   checked_good,
   validates_where_checked,
-  good_is_utf8,
   tag_calls,
   good_prints_itself,
   parsed_again,
