@@ -35,7 +35,7 @@ def stated(tree: Path, package: str) -> Iterator[str]:
     """Yields the definitions of a package, and of what `fontval` answers."""
     crates = re.findall(r'"/crates/(\w+)"', (tree / "Cargo.toml").read_text())
     for crate in [*crates, "font_lines"] if package == "." else [package]:
-        for path in (tree / f"crates/{crate}/specs").glob("*.antt"):
+        for path in (tree / f"crates/{crate}/specs").rglob("*.antt"):
             yield from surface.definitions(path.read_text())
 
 
