@@ -71,11 +71,10 @@ tools:
 	told="Ran $$(cat tools/tests/*.py | grep -c '^    def test_') tests in .*|OK$(if $(PYTHON),,.*)"
 	[[ $$(grep -cxE "$$told" "$$log") == 2 ]]
 
-# What these two print has a line for each function, which is left out here. They use all processors,
-# so the other steps, whose last parts use one, go first.
+# What these two print has a line for each function, which is left out here.
 smt smt-checked:
 	$(call with,rustc cc $(if $(PYTHON),,python3-z3))
-	nice $(PYTHON) tools/smt $(filter --checked,$(@:smt%=-%)) | sed '/ proved$$/d'
+	$(PYTHON) tools/smt $(filter --checked,$(@:smt%=-%)) | sed '/ proved$$/d'
 
 mir:
 	$(call with,cargo cc git python3)
