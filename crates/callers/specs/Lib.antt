@@ -4,3 +4,4 @@ pub mod Dumper
 pub mod Start
 pub mod Scaler
 pub mod Words
+pub mod Evaluator

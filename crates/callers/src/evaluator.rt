@@ -1,12 +1,12 @@
 //! An evaluator of variations: from the settings of axes to an advance.
 
-ghost use Rattle.std.specs.Prelude.{◌≡◌, ◌⊎◌, pos, IfSome, IfNone, length, Some};
+ghost use Rattle.std.specs.Prelude.{◌≡◌, ◌⊎◌, pos, IfSome, IfNone, IsNone, length, Some};
 ghost use Rattle.std.specs.Option.{option_map};
 ghost use Rattle.font_types.specs.{FWord.ufword_number};
 ghost use Rattle.variations.specs.Advances.{regions_of, subtable_of, HasData};
 ghost use Rattle.variations.specs.Variations.{IsNoVariation, IsVaried, HasNoVaried};
-ghost use Rattle.variations.specs.Evaluator.{AreCoordinates, HaveCoordinates, AreOfAxes};
-ghost use Rattle.variations.specs.Evaluator.{fvar_axis_count};
+ghost use Rattle.variations.specs.Evaluator.{AreCoordinates};
+ghost use Rattle.callers.specs.Evaluator.{AreAccepted};
 
 use font_types::{F2Dot14, UfWord};
 use variations::{Avar, DeltaSetIndex, Fvar, ItemVariationStore, Setting};
@@ -24,23 +24,28 @@ pub fn advance_at_settings(
     set: DeltaSetIndex,
     advance: UfWord,
 ) -> Option<UfWord>
-    ensures at { IfSome result (λ _. AreCoordinates axes.entry.0.now.bytes.now
+    ensures written { AreAccepted axes.entry.0.now.bytes.now
+        (option_map (λ avar. avar.now) axes.entry.1.now.bytes) settings.now (length coordinates.old)
+        → AreCoordinates axes.entry.0.now.bytes.now
         (option_map (λ avar. avar.now) axes.entry.1.now.bytes) settings.now
-        (length coordinates.new) coordinates.new) }
+        (length coordinates.old) coordinates.new }
+    ensures kept { ¬ AreAccepted axes.entry.0.now.bytes.now
+        (option_map (λ avar. avar.now) axes.entry.1.now.bytes) settings.now (length coordinates.old)
+        → coordinates.new ≡ coordinates.old }
     ensures unvaried { IsNoVariation set.outer set.inner
         → IfSome result (λ varied. varied ≡ advance) }
     ensures value { ¬ IsNoVariation set.outer set.inner → IfSome result (λ varied.
         IsVaried (regions_of store.now.bytes.now) (subtable_of store.now.bytes.now set.outer)
         coordinates.new set.inner (ufword_number advance) (pos (ufword_number varied))) }
-    ensures none { IfNone result ((¬ ((length coordinates.old
-        ≡ fvar_axis_count axes.entry.0.now.bytes.now)
-        × HaveCoordinates axes.entry.0.now.bytes.now
-        (option_map (λ avar. avar.now) axes.entry.1.now.bytes)
-        × AreOfAxes axes.entry.0.now.bytes.now settings.now))
+    ensures none { IfNone result ((¬ AreAccepted axes.entry.0.now.bytes.now
+        (option_map (λ avar. avar.now) axes.entry.1.now.bytes) settings.now (length coordinates.old))
         ⊎ ((¬ IsNoVariation set.outer set.inner)
         × ((¬ HasData store.now.bytes.now set.outer set.inner)
         ⊎ HasNoVaried (regions_of store.now.bytes.now) (subtable_of store.now.bytes.now set.outer)
         coordinates.new set.inner (ufword_number advance)))) }
+    ensures refused { ¬ AreAccepted axes.entry.0.now.bytes.now
+        (option_map (λ avar. avar.now) axes.entry.1.now.bytes) settings.now (length coordinates.old)
+        → IsNone result }
 {
     axes.0.coordinates(axes.1, settings, coordinates).ok()?;
     varied(store, set, advance, coordinates)
