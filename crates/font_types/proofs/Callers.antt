@@ -10,7 +10,7 @@ use Rattle.font_fixed.proofs.Orders.{order_calls}
 use Rattle.font_tags.proofs.{TagLaws.tag_calls, VersionLaws.compatible_calls}
 use Rattle.font_geom.proofs.{Bounds.bound_calls, Scaled.scaled_calls, Scaled.products_in_order}
 use Rattle.font_types.proofs.SumCalls.{sum_calls_from, sum_calls_16, sum_calls_32, delta_rules}
-use Rattle.font_types.proofs.Parts.{part_calls, unit_calls, between_calls, lerp_calls}
+use Rattle.font_types.proofs.Parts.{part_calls, unit_calls, between_calls, lerp_calls, wide_lerp_calls}
 use Rattle.font_types.proofs.{Counts.count_calls, Lines.line_calls, Ratios.ratio_calls}
 use Rattle.font_types.proofs.Ratios.{order_ratio_calls}
 use Rattle.font_types.proofs.Narrowed.{exact_narrow_calls, exact_sum_is_integral, negation_is_integral}
@@ -114,7 +114,7 @@ pub ruleset calls = (
 
 -- for the value of `a + (b - a) * t`, as one formula; of `(x - p) / (q - p)`; of `mul_div` by such a quotient, and of
 -- any `mul_div` by a number other than 0
-pub ruleset lerps = (lerp_calls, ratio_calls, mul_div_is)
+pub ruleset lerps = (lerp_calls, wide_lerp_calls, ratio_calls, mul_div_is)
 
 -- for `(x - p) / (q - p)` and `(q - x) / (q - p)` in a branch, by the two orders that its tests leave: `p <= x` and
 -- `x < q`, or `p < x` and `x <= q`
@@ -160,9 +160,10 @@ pub ruleset records_1_3_8 = (other_record_calls)
 pub ruleset headers = (header_calls)
 
 -- for a file of numbers, in place of `calls`: what `calls` has of numbers, and `lerps`, `integers`, `narrowings`,
--- `orders`, `ties` and `shifts`. A lemma that is named twice counts twice against the limits of a search. So neither
--- this nor `tables` names one twice, nor std's `ints`, which the check names itself in a function whose code computes
--- with signed integers.
+-- `orders`, `ties` and `shifts`. Of `lerps` it leaves out the sums that wrap to 64 bits, with which a loop over two
+-- such sums stays open. A lemma that is named twice counts twice against the limits of a search. So neither this nor
+-- `tables` names one twice, nor std's `ints`, which the check names itself in a function whose code computes with
+-- signed integers.
 pub ruleset numbers = (
   fixed_calls,
   calls_16,
@@ -182,7 +183,9 @@ pub ruleset numbers = (
   scaled_calls,
   part_calls,
   between_calls,
-  lerps,
+  lerp_calls,
+  ratio_calls,
+  mul_div_is,
   integers,
   narrowings,
   orders,

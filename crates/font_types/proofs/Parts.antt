@@ -316,6 +316,6 @@ pub ruleset lerp_calls = (
   quotient_of_widened,
   wrapped_left_32,
   wrapped_right_32,
-  wrapped_left_64,
-  wrapped_right_64,
 )
+
+pub ruleset wide_lerp_calls = (wrapped_left_64, wrapped_right_64)
