@@ -1,7 +1,7 @@
 -- The tables `VORG`, `hhea` and `fvar`.
 -- (OpenType, VORG: "defaultVertOriginY" and "numVertOriginYMetrics" after two numbers of the version)
-use Rattle.std.specs.Prelude.{◌≡◌, ℕ, List, ◌++◌, take, drop}
-use Rattle.font_types.specs.{BigEndian.raw_value, Bytes.bytes_of, FWord.fword_number, Fixed.fixed_bits, Tag.tag_bytes}
+use Rattle.std.specs.Prelude.{◌≡◌, ◌⊎◌, ℕ, ◌<◌, ◌≤◌, List, ◌++◌, take, drop}
+use Rattle.font_types.specs.{BigEndian.raw_value, Bytes.numeral, Bytes.bytes_of, FWord.fword_number, Fixed.fixed_bits, Tag.tag_bytes}
 use Rattle.callers.specs.declared.reader.{Origins.Origins, LineMetrics.LineMetrics, AxisRange.AxisRange}
 
 -- the bytes of each field
@@ -18,3 +18,19 @@ metrics_bytes metrics = bytes_of 2 (fword_number metrics.ascender) ++ bytes_of 2
 abbrev pub range_bytes : AxisRange → List ℕ
 range_bytes axis = tag_bytes axis.tag ++ bytes_of 4 (fixed_bits axis.min) ++ bytes_of 4 (fixed_bits axis.default)
     ++ bytes_of 4 (fixed_bits axis.max)
+
+-- the first and the last character of a group (OpenType, cmap: startCharCode and endCharCode)
+abbrev pub first_character : List ℕ → ℕ
+first_character group = numeral (take 4 group)
+
+abbrev pub last_character : List ℕ → ℕ
+last_character group = numeral (take 4 (drop 4 group))
+
+-- neither the first nor the last character is above that of a later group
+pub record AreInOrder (group_at : ℕ → List ℕ) (n : ℕ) : Type 0 where
+  pub first : (i j : ℕ) → i ≤ j → j < n → first_character (group_at i) ≤ first_character (group_at j)
+  pub last : (i j : ℕ) → i ≤ j → j < n → last_character (group_at i) ≤ last_character (group_at j)
+
+-- the character is before the first or after the last of a group
+abbrev pub IsOutside : List ℕ → ℕ → Type 0
+IsOutside group character = (character < first_character group) ⊎ (last_character group < character)

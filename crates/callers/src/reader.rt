@@ -17,7 +17,8 @@ ghost use Rattle.font_types.specs.Array.{IsSearched, array_len, element_bytes};
 ghost use Rattle.font_types.specs.{Records.record_laws, Wrap.fits_bits};
 ghost use Rattle.font_types.specs.{Tag.tag_bytes, Fixed.fixed_bits, Uint24.Laws.uint24_laws};
 ghost use Rattle.font_types.specs.Uint24.{uint24_number, uint24_of_bytes, bytes_of_uint24};
-ghost use Rattle.callers.specs.Reader.{metrics_bytes, range_bytes};
+ghost use Rattle.callers.specs.Reader.{metrics_bytes, range_bytes, first_character, last_character};
+ghost use Rattle.callers.specs.Reader.{AreInOrder, IsOutside};
 
 use font_types::{
     BigEndian, FWord, Fixed, FixedSize, GlyphId16, LongDateTime, Offset16, OffsetValue, Scalar,
@@ -257,6 +258,34 @@ impl Scalar for Group {
         let [i, j, k, l] = self.glyph.to_raw();
         [a, b, c, d, e, f, g, h, i, j, k, l]
     }
+}
+
+/// Searches ranges by halves: the index of the group of a character, or `None`.
+///
+/// The loop's invariant says, of groups in order, that those before `low` end below the character
+/// and that those from `high` on begin above it.
+pub fn group_index(groups: &ScalarArray<'_, Group>, character: u32) -> Option<usize>
+    ensures found { IfSome result (λ i. (i < array_len groups.now)
+        × (first_character (element_bytes groups.now i) ≤ character)
+        × (character ≤ last_character (element_bytes groups.now i))) }
+    ensures none { AreInOrder (element_bytes groups.now) (array_len groups.now)
+        → IfNone result ((k : ℕ) → k < array_len groups.now
+        → IsOutside (element_bytes groups.now k) character) }
+{
+    let mut low = 0;
+    let mut high = groups.len();
+    while low < high {
+        let middle = low + (high - low) / 2;
+        let group = groups.get(middle)?;
+        if group.last < character {
+            low = middle + 1;
+        } else if character < group.first {
+            high = middle;
+        } else {
+            return Some(middle);
+        }
+    }
+    None
 }
 
 /// Takes an array after its count: 32-bit numbers, or `None` if the list ends before they do.

@@ -280,6 +280,33 @@ pub fn kerned_width(advances: &[Fixed], kerning: &[Fixed]) -> Fixed
     width
 }
 
+// Adds the kerning to an advance, exactly.
+fn kerned(advance: Fixed, kern: Fixed) -> i64
+    ensures value { result ≡ (fixed_bits advance +ℤ fixed_bits kern) }
+    ensures size { unsigned_abs result ≤ 2 ^ 32 }
+{
+    i64::from(advance.to_bits()) + i64::from(kern.to_bits())
+}
+
+/// Adds exactly, and refuses a sum that does not fit: the same width, or `None`.
+///
+/// A slice may have more than 2^31 elements, whose sum 64 bits may not hold. The invariant bounds the
+/// sum by the count, so that no step overflows. In a function of its own: the number that is added,
+/// with a clause that bounds it.
+pub fn exact_width(advances: &[Fixed], kerning: &[Fixed]) -> Option<Fixed>
+    requires { length advances.now ≡ length kerning.now }
+    ensures variant { IsSome result
+        ↔ FitsBits 32 (total_below (kerned_at advances.now kerning.now) (length advances.now)) }
+    ensures value { IfSome result (λ width. fixed_bits width
+        ≡ total_below (kerned_at advances.now kerning.now) (length advances.now)) }
+{
+    let mut width = 0i128;
+    for index in 0..advances.len() {
+        width += i128::from(kerned(advances[index], kerning[index]));
+    }
+    Some(Fixed::from_bits(i32::try_from(width).ok()?))
+}
+
 /// Adds the numbers of two slices by `zip`: the same width.
 ///
 /// The loop has no index. In its invariant, `length l.yielded` stands for one. If a loop by `zip`

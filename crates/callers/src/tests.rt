@@ -12,9 +12,10 @@ ghost use Rattle.font_types.specs.F48Dot16;
 use crate::dumper::{Axis, row};
 use crate::linter::{BadTag, validate};
 use crate::reader::{
-    AxisRange, Origins, Variant, counted_numbers, decode_range, encode_range, origin_at,
-    origin_index,
+    AxisRange, Group, Origins, Variant, counted_numbers, decode_range, encode_range, group_index,
+    origin_at, origin_index,
 };
+use crate::scaler::exact_width;
 use crate::start::advance_at;
 use font_types::JsonFault::{InvalidTag, MissingMember, Syntax};
 use font_types::{
@@ -68,6 +69,47 @@ fn vertical_origins(rt: HostRuntime) -> Result<(), Fail> {
     assert!(rt; origins.get(1).map(|record| record.origin) == Some(FWord::new(-2)));
     assert!(rt; origin_at(&vorg, 1) == Some(FWord::new(-2)) && origin_at(&vorg, 2) == None);
     Ok(())
+}
+
+// Two groups: of printable characters, and of emoticons.
+#[test]
+fn groups_of_characters(rt: HostRuntime) -> Result<(), Fail> {
+    let bytes = [
+        0, 0, 0, 0x20, 0, 0, 0, 0x7E, 0, 0, 0, 3, 0, 1, 0xF6, 0, 0, 1, 0xF6, 0x4F, 0, 0, 0, 98,
+    ];
+    let groups = ScalarArray::<Group>::new(&bytes).ok_or("two groups")?;
+    for &(character, index) in &[
+        (0x1F, None),
+        (0x20, Some(0)),
+        (0x7E, Some(0)),
+        (0x7F, None),
+        (0x1F5FF, None),
+        (0x1F600, Some(1)),
+        (0x1F64F, Some(1)),
+        (0x1F650, None),
+    ] {
+        assert!(rt; group_index(&groups, character) == index, "{character}");
+    }
+    Ok(())
+}
+
+#[test]
+fn widths_that_fit(rt: HostRuntime) {
+    let (max, one, minus) = (Fixed::MAX, Fixed::from_bits(1), Fixed::from_bits(-1));
+    for &(advance, kern, width) in &[
+        (max, minus, Some(Fixed::from_bits(0x7FFF_FFFE))),
+        (max, Fixed::ZERO, Some(max)),
+        (max, one, None),
+        (Fixed::MIN, Fixed::ZERO, Some(Fixed::MIN)),
+        (Fixed::MIN, minus, None),
+    ] {
+        assert!(rt;
+            exact_width(&[advance], &[kern]) == width,
+            "{advance} {kern}"
+        );
+    }
+    // The sum of the first two alone does not fit.
+    assert!(rt; exact_width(&[max, one, minus], &[Fixed::ZERO; 3]) == Some(max));
 }
 
 #[test]
