@@ -1,7 +1,8 @@
 -- The tables `VORG`, `hhea` and `fvar`.
 -- (OpenType, VORG: "defaultVertOriginY" and "numVertOriginYMetrics" after two numbers of the version)
 use Rattle.std.specs.Prelude.{◌≡◌, ◌⊎◌, ℕ, ◌<◌, ◌≤◌, List, ◌++◌, take, drop}
-use Rattle.font_types.specs.{BigEndian.raw_value, Bytes.numeral, Bytes.bytes_of, FWord.fword_number, Fixed.fixed_bits, Tag.tag_bytes}
+use Rattle.font_types.specs.{BigEndian.raw_value, Bytes.numeral, Bytes.bytes_of, FWord.fword_number}
+use Rattle.font_types.specs.{Fixed.fixed_bits, Tag.tag_bytes}
 use Rattle.callers.specs.declared.reader.{Origins.Origins, LineMetrics.LineMetrics, AxisRange.AxisRange}
 
 -- the bytes of each field

@@ -38,7 +38,8 @@ pub fn advance_at_settings(
         IsVaried (regions_of store.now.bytes.now) (subtable_of store.now.bytes.now set.outer)
         coordinates.new set.inner (ufword_number advance) (pos (ufword_number varied))) }
     ensures none { IfNone result ((¬ AreAccepted axes.entry.0.now.bytes.now
-        (option_map (λ avar. avar.now) axes.entry.1.now.bytes) settings.now (length coordinates.old))
+        (option_map (λ avar. avar.now) axes.entry.1.now.bytes) settings.now
+        (length coordinates.old))
         ⊎ ((¬ IsNoVariation set.outer set.inner)
         × ((¬ HasData store.now.bytes.now set.outer set.inner)
         ⊎ HasNoVaried (regions_of store.now.bytes.now) (subtable_of store.now.bytes.now set.outer)

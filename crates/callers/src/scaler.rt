@@ -290,9 +290,9 @@ fn kerned(advance: Fixed, kern: Fixed) -> i64
 
 /// Adds exactly, and refuses a sum that does not fit: the same width, or `None`.
 ///
-/// A slice may have more than 2^31 elements, whose sum 64 bits may not hold. The invariant bounds the
-/// sum by the count, so that no step overflows. In a function of its own: the number that is added,
-/// with a clause that bounds it.
+/// A slice may have more than 2^31 elements, whose sum 64 bits may not hold. The invariant bounds
+/// the sum by the count, so that no step overflows. In a function of its own: the number that is
+/// added, with a clause that bounds it.
 pub fn exact_width(advances: &[Fixed], kerning: &[Fixed]) -> Option<Fixed>
     requires { length advances.now ≡ length kerning.now }
     ensures variant { IsSome result
