@@ -71,10 +71,11 @@ tools:
 	told="Ran $$(cat tools/tests/*.py | grep -c '^    def test_') tests in .*|OK$(if $(PYTHON),,.*)"
 	[[ $$(grep -cxE "$$told" "$$log") == 2 ]]
 
-# What these two print has a line for each function, which is left out here.
+# What these two print has a line for each function, which is left out here. They use all processors
+# until they end, so the others, which end on one, go first.
 smt smt-checked:
 	$(call with,rustc cc $(if $(PYTHON),,python3-z3))
-	$(PYTHON) tools/smt $(filter --checked,$(@:smt%=-%)) | sed '/ proved$$/d'
+	nice $(PYTHON) tools/smt $(filter --checked,$(@:smt%=-%)) | sed '/ proved$$/d'
 
 mir:
 	$(call with,cargo cc git python3)

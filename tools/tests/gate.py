@@ -19,7 +19,7 @@ TOOLS = re.findall(r"\nfor tool in (.*?);", (ROOT / ".ci/run").read_text())[0].s
 TOOLS += "c++ pkg-config nm readelf ldd c++filt objdump".split()
 # What the gate and its stand-ins call of the system.
 SYSTEM = (
-    "bash sh env basename cat cmp dirname find git grep make mkdir mktemp nproc paste rm sed sort"
+    "bash sh env basename cat cmp dirname find git grep make mkdir mktemp nice nproc paste rm sed sort"
     " tail tee uniq wc"
 )
 
