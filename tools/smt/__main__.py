@@ -5,11 +5,11 @@
 
 `--checked` compiles with checks of overflow and debug assertions, and so shows that none of them
 fails. Without it, the build has neither, like a release build. `--target` compiles for another
-target, whose `std` rustc must have, and whose code is not run. `--exhaustive` adds the long rows and
-those of each number of fraction bits. `--mutants` tries wrong Rust. `--solver` asks another solver, which reads
-SMT-LIB, of each goal and lemma that Z3 refutes, and of each term whether it is what Z3 simplified
-it to. It fails if that solver finds values, and names the rows and lemmas of which it decides
-something not."""
+target, whose `std` rustc must have, and whose code is not run. In place of the rows of the gate,
+`--long` proves the long ones, and `--exhaustive` those of each number of fraction bits. `--mutants`
+tries wrong Rust. `--solver` asks another solver, which reads SMT-LIB, of each goal and lemma that Z3
+refutes, and of each term whether it is what Z3 simplified it to. It fails if that solver finds
+values, and names the rows and lemmas of which it decides something not."""
 
 import argparse
 import ctypes
@@ -77,7 +77,7 @@ def prove(index: int) -> list[Proved]:
 def run(options: argparse.Namespace, room: Path) -> list[Proved]:
     """Proves the functions whose names have a pattern, in several processes."""
     global SHARED
-    rows = [it for it in table.rows(options.exhaustive) if re.search(options.only, it.name)]
+    rows = [it for it in options.rows if re.search(options.only, it.name)]
     built = build(options.tree, room, table.wrappers(rows), options.checked, options.target)
     library = ctypes.CDLL(str(built.library)) if built.library else None
     module, groups = Module(built.ir), dict[Any, list[table.Row]]()
@@ -107,7 +107,8 @@ def main() -> int:
     parser.add_argument("--only", default="")
     parser.add_argument("--checked", action="store_true")
     parser.add_argument("--target", default="")
-    parser.add_argument("--exhaustive", action="store_true")
+    for name, rows in (("--long", table.LONG), ("--exhaustive", table.OF_EACH)):
+        parser.add_argument(name, dest="rows", action="store_const", const=rows, default=table.ROWS)
     parser.add_argument("--jobs", type=int, default=os.cpu_count())
     parser.add_argument("--mutants", action="store_true")
     parser.add_argument("--solver", type=shlex.split, default=[])

@@ -9,7 +9,7 @@ from z3 import BitVecRef, BoolRef
 
 from values import NO, YES, extend, is_constant
 
-Operation = Callable[[BitVecRef, BitVecRef], BitVecRef]
+Operation = Callable[[BitVecRef, BitVecRef], BitVecRef | BoolRef]
 
 
 class Quotient(NamedTuple):
@@ -35,7 +35,7 @@ class Arithmetic:
         self.facts: list[BoolRef] = []
         self.quotients: list[Quotient] = []
         # Each unknown result, the operation, and its operands.
-        self.nodes: list[tuple[BitVecRef, Operation, BitVecRef, BitVecRef]] = []
+        self.nodes: list[tuple[BitVecRef | BoolRef, Operation, BitVecRef, BitVecRef]] = []
         self.ranges: dict[int, tuple[BitVecRef, int]] = {}
 
     def greatest(self, bits: BitVecRef) -> int:
@@ -113,16 +113,30 @@ class Arithmetic:
 
     def multiply_overflows(self, a: BitVecRef, b: BitVecRef, signed: bool) -> BoolRef:
         """`nsw`, `nuw`: the product of the integers is not in the width. It is, if the bounds of
-        both operands say so; else, of two unknowns, whether it is may be either."""
+        both operands say so. Else, of two unknowns, whether it is may be either, except that of
+        unsigned numbers a <= x and b <= y, the product is at most x y, if that is in the width."""
         width, most = a.size(), self.greatest(a) * self.greatest(b)
         narrow = signed and self.signed_width(a) + self.signed_width(b) - 2 < width - 1
         if narrow or most < 1 << (width - 1 if signed else width):
             return NO
-        if self.exact or is_constant(a) or is_constant(b):
+
+        def is_wrong(a: BitVecRef, b: BitVecRef) -> BoolRef:
             wide = extend(signed, 2 * width, a) * extend(signed, 2 * width, b)
             return extend(signed, 2 * width, a * b) != wide
+
+        if self.exact or is_constant(a) or is_constant(b):
+            return is_wrong(a, b)
         sorts = [a.sort(), b.sort(), z3.BoolSort()]
-        return z3.Function(f"overflows{width}{signed}", *sorts)(a, b)
+        wraps = z3.Function(f"overflows{width}{signed}", *sorts)(a, b)
+        if any(it[0].eq(wraps) for it in self.nodes):
+            return wraps
+        self.nodes.append((wraps, is_wrong, a, b))
+        for it, other in () if signed else ((a, b), (b, a)):
+            few = ((1 << width) - 1) // max(self.greatest(it), 1)
+            if few > 1:
+                fits = z3.And(z3.Not(wraps), z3.ULE(self.multiply(a, b), self.greatest(it) * few))
+                self.facts.append(z3.Implies(z3.ULE(other, few), fits))
+        return wraps
 
     def divide(self, n: BitVecRef, d: BitVecRef) -> BitVecRef:
         """The quotient q of unsigned numbers: if d is not 0, then q <= n and q d <= n < q d + d,

@@ -13,11 +13,11 @@ from typing import Any
 from build import PARTS, Refusal, build
 from ir import Module
 from proof import Refused, Unknown
-from table import Row, proof_of, rows, wrappers
+from table import ROWS, Row, proof_of, wrappers
 from values import Unsupported
 
 # Of parsing, one function of each format.
-TRIED = [it for it in rows(False) if not re.search(r"::from_decimal\(|FromStr|::lit", it.name)]
+TRIED = [it for it in ROWS if not re.search(r"::from_decimal\(|FromStr|::lit", it.name)]
 NUMBERED = re.compile(r"!\d+|#\d+|@(?:alloc_|anon\.)\w+(?:\.\d+)*|17h[0-9a-f]{16}E")
 
 

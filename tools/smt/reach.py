@@ -25,7 +25,7 @@ FUNCTION = re.compile(r'[nN]ame: "(\w+)", scope: !\d+, file: (!\d+), line: (\d+)
 
 def called(tree: Path) -> list[tuple[str, list[Called]]]:
     """Returns each row by its name, with the functions that it calls."""
-    rows = table.rows(True)
+    rows = [*table.ROWS, *table.LONG, *table.OF_EACH]
     with tempfile.TemporaryDirectory() as room:
         ir = build.compiled(tree, Path(room), table.wrappers(rows), OPTIONS)
     files, places = dict(FILE.findall(ir)), {}

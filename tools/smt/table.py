@@ -6,7 +6,8 @@ from collections.abc import Sequence
 import parsing
 import printing
 from build import wrapper
-from rows.cases import CASES, LONG, Case
+from rows.cases import CASES, Case
+from rows.cases import LONG as LONG
 from ir import Module
 from parsing import Parsing
 from printing import Printing
@@ -15,11 +16,9 @@ from proof import Proof
 Row = Case | parsing.Row | printing.Row
 
 
-def rows(exhaustive: bool) -> list[Row]:
-    """Returns the rows of each run, or also the long ones, and those of functions that take f, for
-    each f."""
-    every: list[Row] = [*CASES, *parsing.ROWS, *printing.ROWS]
-    return [*every, *LONG, *parsing.OF_EACH, *printing.OF_EACH] if exhaustive else every
+# The rows of the gate, those that take long first, and those of functions that take f, for each f.
+ROWS: list[Row] = [*printing.ROWS, *parsing.ROWS, *CASES]
+OF_EACH: list[Row] = [*parsing.OF_EACH, *printing.OF_EACH]
 
 
 def wrappers(some: Sequence[Row]) -> str:

@@ -24,7 +24,7 @@ class Case(NamedTuple):
 
 
 CASES: list[Case] = []
-# Rows that need more than a minute, or say of other types the same: `--exhaustive` adds them.
+# Rows that need more than a minute, or say of other types the same: `--long` proves them.
 LONG: list[Case] = []
 FORMATS = [
     ("Fixed", 32, 16),
