@@ -4,7 +4,7 @@ from collections.abc import Iterator
 from typing import Any
 
 import z3
-from z3 import BoolRef
+from z3 import BitVecRef, BoolRef
 
 from integers import subterms
 from rows.row import Rule, case, relation
@@ -21,8 +21,8 @@ matrix = lambda of: "Matrix::from_elements([{}])".format(
     ", ".join(f"Fixed::from_bits({of}{it})" for it in ENTRIES))
 SPOTS = [f"Point::new(Fixed::from_bits({x}), Fixed::from_bits({y}))" for x, y in (
     ("x", "y"), ("s", "t"))]
-PAIR = "((it.{}.to_bits() as u32 as u64) << 32) | it.{}.to_bits() as u32 as u64"
-BOTH, ROWS = PAIR.format("x", "y"), {"x": ("xx", "xy", "dx"), "y": ("yx", "yy", "dy")}
+BOTH = "((it.x.to_bits() as u32 as u64) << 32) | it.y.to_bits() as u32 as u64"
+ROWS = {"x": ("xx", "xy", "dx"), "y": ("yx", "yy", "dy")}
 FROM = "Fixed::from_bits(x), Fixed::from_bits(y)"
 
 
@@ -40,6 +40,18 @@ def product(p: Products, *v: Any) -> dict[str, Any]:
     return {name: columns[name[1] if name[0] != "d" else "d"]["xy".index(
         name[0] if name[0] != "d" else name[1])] - (p.number(a["d" + name[0]]) if name[0] != "d" else 0)
             for name in ENTRIES}
+
+
+# Any entry of a matrix, by an index. From 5 on, it is the last.
+ENTRY = "match i {{ {}, _ => it.dy.to_bits() }}".format(
+    ", ".join(f"{i} => it.{name}.to_bits()" for i, name in enumerate(ENTRIES[:-1])))
+
+
+def entry(of: dict[str, Any], i: BitVecRef) -> Any:
+    *before, found = of.values()
+    for at, it in enumerate(before):
+        found = z3.If(i == at, it, found)
+    return found
 
 
 def image(p: Products, *v: Any) -> list[Any]:
@@ -114,19 +126,15 @@ case("Matrix::checked_transform", given, "?u64",
 case("Matrix::checked_transform_point", given, "?u64", f"{matrix('a')}.checked_transform_point(Point::new("
      f"F26Dot6::from_bits(x), F26Dot6::from_bits(y))).map(|it| {BOTH})",
      lambda p, *v: some(all_fit(*moved(p, *v)), two(*moved(p, *v))))
-given = entries("a") + ", " + entries("b")
-for name in ENTRIES:
-    case(f"Matrix * Matrix, {name}", given, "i32",
-         f"({matrix('a')} * {matrix('b')}).{name}.to_bits()",
-         lambda p, *v, name=name: wrap(32, product(p, *v)[name]))
-for m, n in zip(ENTRIES[::2], ENTRIES[1::2]):
-    case(f"Matrix *=, {m} and {n}", given, "u64",
-         f"{{ let mut it = {matrix('a')}; it *= {matrix('b')}; {PAIR.format(m, n)} }}",
-         lambda p, *v, m=m, n=n: two(product(p, *v)[m], product(p, *v)[n]))
-    case(f"Matrix::checked_mul, {m} and {n}", given, "?u64",
-         f"{matrix('a')}.checked_mul({matrix('b')}).map(|it| {PAIR.format(m, n)})",
-         lambda p, *v, m=m, n=n: (lambda it: some(all_fit(*it.values()), two(it[m], it[n])))(
-             product(p, *v)))
+given = entries("a") + ", " + entries("b") + ", i: u8"
+case("Matrix * Matrix", given, "i32", f"{{ let it = {matrix('a')} * {matrix('b')}; {ENTRY} }}",
+     lambda p, *v: wrap(32, entry(product(p, *v[:-1]), v[-1])))
+case("Matrix *=", given, "i32", f"{{ let mut it = {matrix('a')}; it *= {matrix('b')}; {ENTRY} }}",
+     lambda p, *v: wrap(32, entry(product(p, *v[:-1]), v[-1])))
+case("Matrix::checked_mul", given, "?i32",
+     f"{matrix('a')}.checked_mul({matrix('b')}).map(|it| {ENTRY})",
+     lambda p, *v: (lambda it: some(all_fit(*it.values()), wrap(32, entry(it, v[-1]))))(
+         product(p, *v[:-1])))
 
 # The lemmas of `bounds` are of these.
 for law, matrices in ((image, "a"), (composed, "ab"), (in_turn, "ab")):
