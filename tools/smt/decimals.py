@@ -63,8 +63,8 @@ def expected(data: bytes, f: int, low: int, high: int) -> int:
 # ---------------------------------------------------------------- what the proof uses of it
 
 # Half units of the fraction, rounded down, are h. Of the first f + 1 places, which are kept, digits
-# are from the index y on, and of the later ones up to z.
-h, y, z = z3.Ints("h y z")
+# are from the index y on, and of the later ones up to z. Any index is `at`.
+h, y, z, at = z3.Ints("h y z at")
 
 
 def lemmas() -> Iterator[tuple[str, BoolRef]]:
@@ -96,6 +96,7 @@ class Text:
     def __init__(self, places: int) -> None:
         self.places, self.first, self.late = places, e + 1, e + 1 + places
         self.cut = z3.If(n < self.late, n, self.late)
+        self.at_place = self.at_any()
 
     def facts(self) -> list[BoolRef]:
         """What is true of each text. `h` is of all places, and by SPLIT, BOUND and LATE of those
@@ -114,8 +115,12 @@ class Text:
             z3.Implies(e == n, h == 0),
         ]
 
-    def facts_at(self, at: ArithRef) -> BoolRef:
+    def facts_at(self, place: ArithRef) -> BoolRef:
         """What is true of each byte."""
+        return z3.substitute(self.at_place, (at, place))
+
+    def at_any(self) -> BoolRef:
+        """What is true of the byte at the index `at`."""
 
         def within(low: ArithRef, high: ArithRef, it: BoolRef) -> BoolRef:
             return z3.Implies(z3.And(low <= at, at < high), it)

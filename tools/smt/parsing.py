@@ -21,7 +21,7 @@ from decimals import (
 )  # fmt: skip
 from execution import Machine
 from inputs import byte_of, run_library
-from integers import Integers, signed, subterms
+from integers import Integers, signed
 from ir import Function, Module
 from memory import Object, Slice
 from proof import SEARCH, Refused, Unknown, refute_known
@@ -139,9 +139,8 @@ class Parsing:
         # Conditions by their identity, with what they are as those of integers.
         self.read: dict[int, tuple[BoolRef, list[BoolRef]]] = {}
         self.simple: dict[int, tuple[BoolRef, BoolRef]] = {}
-        self.parts: dict[int, tuple[BoolRef, frozenset[int]]] = {}
-        # What is true of a byte, by the identity of its index.
-        self.facts: dict[int, tuple[ArithRef, BoolRef]] = {}
+        # By the identity of a term, what is true of the bytes and names in it, by their identities.
+        self.facts: dict[int, tuple[Any, dict[int, BoolRef]]] = {}
         # By the last of them, conditions that exclude each other, and so do more. They are kept, so
         # that no other condition has the identity of one.
         self.excluded: dict[int, list[tuple[frozenset[int], list[BoolRef]]]] = {}
@@ -217,17 +216,22 @@ class Parsing:
 
     def keep(self, key: BoolRef, found: list[BoolRef]) -> list[BoolRef]:
         """Keeps conditions of integers, with what is true of the bytes and names in them."""
-        for it in list(subterms(found)):
-            if z3.is_app(it) and it.decl().eq(text):
-                at = it.arg(0)
-                if at.get_id() not in self.facts:
-                    self.facts[at.get_id()] = at, self.text.facts_at(at)
-                found.append(self.facts[at.get_id()][1])
-            elif z3.is_const(it) and it.decl().name() in self.integers.bounds:
-                low, high = self.integers.bounds[it.decl().name()]
-                found.append(z3.And(low <= it, it <= high))
+        found += dict(fact for it in found for fact in self.about(it).items()).values()
         self.read[key.get_id()] = key, found
         return found
+
+    def about(self, it: Any) -> dict[int, BoolRef]:
+        """Returns what is true of the bytes and names in a term."""
+        if it.get_id() not in self.facts:
+            parts, known = it.children(), dict[int, BoolRef]()
+            for part in parts:
+                known |= self.about(part)
+            if it.decl().eq(text):
+                known[it.get_id()] = self.text.facts_at(parts[0])
+            elif not parts and (bounds := self.integers.bounds.get(it.decl().name())):
+                known[it.get_id()] = z3.And(bounds[0] <= it, it <= bounds[1])
+            self.facts[it.get_id()] = it, known
+        return self.facts[it.get_id()][1]
 
     def premises(self, conditions: list[BoolRef]) -> list[BoolRef]:
         """Returns conditions as those of integers. One that is not read is left out."""
@@ -260,12 +264,6 @@ class Parsing:
         if it.get_id() not in self.simple:
             self.simple[it.get_id()] = it, z3.simplify(it)
         return self.simple[it.get_id()][1]
-
-    def inside(self, it: BoolRef) -> frozenset[int]:
-        """Returns the identities of the parts of a condition."""
-        if it.get_id() not in self.parts:
-            self.parts[it.get_id()] = it, frozenset(part.get_id() for part in subterms([it]))
-        return self.parts[it.get_id()][1]
 
     def of_integers(self, condition: BoolRef) -> BoolRef:
         self.keep(condition, [condition])
@@ -398,7 +396,7 @@ class Parsing:
             ("an error for a decimal", [IS_DECIMAL, bits == 1 << 64]),
             ("no error for another text", [z3.Not(IS_DECIMAL), bits != 1 << 64]),
         ]
-        here = set[int]().union(*map(self.inside, self.premises(conditions)))
+        here = set[int]().union(*map(self.about, self.premises(conditions)))
         for units in self.units:
             if units.get_id() in here:
                 last = h == ((text(e + 1) - ord("0")) * 2**self.text.places + units) / 10
