@@ -12,12 +12,11 @@ from typing import Any
 
 from build import PARTS, Refusal, build
 from ir import Module
-from proof import Refused, Unknown
+from proof import fault_of
 from table import ROWS, Row, proof_of, wrappers
-from values import Unsupported
 
-# Of parsing, one function of each format.
-TRIED = [it for it in ROWS if not re.search(r"::from_decimal\(|FromStr|::lit", it.name)]
+# Of parsing, one function of each format. Those that take long are last.
+TRIED = [it for it in ROWS[::-1] if not re.search(r"::from_decimal\(|FromStr|::lit", it.name)]
 NUMBERED = re.compile(r"!\d+|#\d+|@(?:alloc_|anon\.)\w+(?:\.\d+)*|17h[0-9a-f]{16}E")
 
 
@@ -53,14 +52,10 @@ def refused(tree: Path, cases: list[Row], right: dict[str, str]) -> tuple[str, s
         changed = [it for it in cases if now[f"@{it.symbol}"] != right[f"@{it.symbol}"]]
         module, reasons = Module(built.ir), []
         for case in changed:
-            proof = proof_of(module, case, library)
-            try:
-                proof.sample(3)
-                proof.run()
-            except Refused as error:
-                return "refused", f"{case.name}: {error}"
-            except (Unknown, Unsupported) as error:
-                reasons.append(f"{case.name}: {error}")
+            reason = fault_of(proof_of(module, case, library))
+            if reason.startswith("REFUSED"):
+                return "refused", f"{case.name}{reason.removeprefix('REFUSED')}"
+            reasons += [f"{case.name}: {reason}"] * bool(reason)
         if reasons:
             return "not proved", reasons[0]
         return ("proved", changed[0].name) if changed else ("in no function of the list", "")

@@ -99,6 +99,7 @@ def copy(machine: Machine, name: str, values: list[Value], state: State) -> None
     """Copies bytes, or sets each to one number. What `memcpy` copies is not where it is put,
     except in one place."""
     target, (size, poison) = address_of(values[0]), number_of(values[2])
+    size, poison = settle(size), settle(poison)
     is_apart = name.startswith("memcpy")
     if not name.startswith("memset"):
         source = address_of(values[1])

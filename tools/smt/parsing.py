@@ -369,13 +369,9 @@ class Parsing:
         arguments: list[Value] = [Address("text", constant(0)), Number(short)]
         arguments += self.others(low, high)
         at, is_met = f"@{self.row.case.symbol}", False
-        try:
-            for end in machine.run(at, arguments, {"text": self.memory["text"]}, []):
-                self.check(number_of(end.value), end.conditions)
-                is_met = is_met or solved(self.premises(end.conditions)) == z3.sat
-        except Unsupported:
-            self.search()
-            raise
+        for end in machine.run(at, arguments, {"text": self.memory["text"]}, []):
+            self.check(number_of(end.value), end.conditions)
+            is_met = is_met or solved(self.premises(end.conditions)) == z3.sat
         if not is_met:
             raise Unknown("no text is known for which it returns")
 

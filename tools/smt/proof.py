@@ -51,12 +51,19 @@ class Provable(Protocol):
     def run(self) -> None:
         ...
 
+    def search(self) -> None:
+        ...
+
 
 def fault_of(proof: Provable, turns: int = 3) -> str:
     """Returns why a function is not proved, or nothing."""
     try:
         proof.sample(turns)
-        proof.run()
+        try:
+            proof.run()
+        except Unsupported:
+            proof.search()
+            raise
         ask_simplified()
     except Refused as error:
         return f"REFUSED: {error}"

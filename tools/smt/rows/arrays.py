@@ -76,6 +76,16 @@ def array_of(kind: Kind) -> None:
     of_new("as_raw", f", {I}",
            f"it.as_raw().get(i).map(|it| <{kind.type} as Scalar>::from_raw(*it))",
            lambda n, i: i, lambda n, i: z3.ULT(i, n))
+    # What a quotient by 3 leaves takes long.
+    chunks = f"<[u8; {size}] as ByteChunks>::as_chunks(text)"
+    case(f"[u8; {size}]::as_chunks", f"text: bytes, {I}", result,
+         f"{chunks}.0.get(i).map(|it| <{kind.type} as Scalar>::from_raw(*it){kind.get})",
+         lambda p, text, i: some(
+             z3.ULT(i, count(text.length, size)), element(kind, text, ZERO, i)))
+    case(f"[u8; {size}]::as_chunks, rest", f"text: bytes, {I}", "?u8", f"{chunks}.1{BYTE}",
+         lambda p, text, i: (lambda start: some(
+             z3.ULT(i, text.length - start), text.byte(start + i)
+         ))(count(text.length, size) * size), is_long=size == 3)
     given = "text: bytes, at: size, n: size"
     read = f"{array}::read_at(text, at, n)"
     case(f"{T}::read_at, len", given, "?u64", of(read, "Some(it.len() as u64)"),
@@ -89,7 +99,6 @@ def array_of(kind: Kind) -> None:
          f"{taken} {of('taken', 'it.get(i)')}{get} }}",
          lambda p, text, n, i: some(
              z3.And(has(text, ZERO, n, size), z3.ULT(i, n)), element(kind, text, ZERO, i)))
-    # In the checked build, a quotient by 3 takes minutes.
     case(f"{T}::take_from, rest", f"text: bytes, n: size, {I}", "?u8",
          f"{taken} let _ = taken; rest{BYTE} }}",
          lambda p, text, n, i: (lambda start: some(
