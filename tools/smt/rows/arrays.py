@@ -67,6 +67,11 @@ def array_of(kind: Kind) -> None:
 
     case(f"{T}::len", "text: bytes", "?u64", of(f"{array}::new(text)", "Some(it.len() as u64)"),
          lambda p, text: some(is_whole(text), count(text.length, size)))
+    case(f"{T}::is_empty", "text: bytes", "?u8",
+         of(f"{array}::new(text)", "Some(it.is_empty() as u8)"),
+         lambda p, text: some(is_whole(text), z3.ZeroExt(7, B(text.length == 0))))
+    case(f"{T}::default", I, result, f"{array}::default().get(i){get}",
+         lambda p, i: some(z3.BoolVal(False), z3.BitVecVal(0, int(kind.result[1:]))))
     of_new("get", f", {I}", "it.get(i)", lambda n, i: i, lambda n, i: z3.ULT(i, n))
     of_new("first", "", "it.first()", lambda n: ZERO, lambda n: n != 0)
     of_new("last", "", "it.last()", lambda n: n - 1, lambda n: n != 0)
@@ -104,6 +109,34 @@ def array_of(kind: Kind) -> None:
          lambda p, text, n, i: (lambda start: some(
              z3.ULT(i, text.length - start), text.byte(start + i)
          ))(z3.If(has(text, ZERO, n, size), n * size, ZERO)), is_long=size == 3)
+
+
+def iterator_of(kind: Kind) -> None:
+    """An iterator has nothing but the array that is left. So what is shown of the iterator of any
+    array is shown of each."""
+    T, new = f"ScalarArray::<{kind.name}>::into_iter", f"ScalarArray::<{kind.type}>::new(text)"
+    is_whole = lambda text: z3.URem(text.length, z3.BitVecVal(kind.size, 64)) == 0
+
+    def of_left(name: str, more: str, call: str, index: Rule, fit: Callable[..., BoolRef]) -> None:
+        """A function that returns an element, of an array of all bytes."""
+        body = f"{{ let mut left = it.into_iter(); {call}.map(|it| it{kind.get}) }}"
+        case(f"{T}, {name}", f"text: bytes{more}", f"?{kind.result}", of(new, body),
+             lambda p, text, *given: (lambda n: some(
+                 z3.And(is_whole(text), n != 0, fit(n, *given)),
+                 element(kind, text, ZERO, index(n, *given))))(count(text.length, kind.size)))
+
+    is_any, is_left = lambda n: z3.BoolVal(True), lambda n, i: z3.ULT(i, n - 1)
+    rest = "let _ = left.{}(); left.as_array().get(i)".format
+    of_left("next", "", "left.next()", lambda n: ZERO, is_any)
+    of_left("next, rest", f", {I}", rest("next"), lambda n, i: i + 1, is_left)
+    of_left("next_back", "", "left.next_back()", lambda n: n - 1, is_any)
+    of_left("next_back, rest", f", {I}", rest("next_back"), lambda n, i: i, is_left)
+    of_left("clone", f", {I}", "left = (&it).into_iter().clone(); left.as_array().get(i)",
+            lambda n, i: i, lambda n, i: z3.ULT(i, n))
+    case(f"{T}, len", "text: bytes", "?u64",
+         of(new, "{ let it = it.into_iter(); Some(if it.size_hint() == (it.len(), Some(it.len()))"
+            " { it.len() as u64 } else { u64::MAX }) }"),
+         lambda p, text: some(is_whole(text), count(text.length, kind.size)))
 
 
 # ---------------------------------------------------------------- fields
@@ -158,6 +191,9 @@ for kind in SCALARS:
     elements_of(kind)
     if kind.name in WIDTHS:
         array_of(kind)
+    # What a quotient by 3 leaves takes long.
+    if kind.name in WIDTHS and kind.size != 3:
+        iterator_of(kind)
 
 # ---------------------------------------------------------------- offsets, headers and records
 for size, make in ((2, "Offset16::new(x)"), (3, "Offset24::new(Uint24::new(x))"),
