@@ -180,6 +180,22 @@ pub fn interpolated(a: Fixed, b: Fixed, at: Fixed, from: Fixed, to: Fixed) -> Fi
     from + (to - from).mul_div(at - a, b - a)
 }
 
+/// Maps between two points: a coordinate of 2.14 by a segment of `avar`, from `x` to `y`, in 16.16.
+///
+/// The code converts to 16.16, so the rise is in 16.16. The quotient is of the differences of raw
+/// values as they are.
+pub fn mapped(at: F2Dot14, low: Point<F2Dot14>, high: Point<F2Dot14>) -> Fixed
+    requires { (f2dot14_bits low.x ≤ℤ f2dot14_bits at) × (f2dot14_bits at ≤ℤ f2dot14_bits high.x)
+        × (f2dot14_bits low.x <ℤ f2dot14_bits high.x) }
+    ensures { fixed_bits result ≡ (f2dot14_bits low.y *ℤ pos 4
+        +ℤ rounded_mul_div ((f2dot14_bits high.y -ℤ f2dot14_bits low.y) *ℤ pos 4)
+        (f2dot14_bits at -ℤ f2dot14_bits low.x) (f2dot14_bits high.x -ℤ f2dot14_bits low.x)) }
+{
+    let (x, y) = (low.x.to_fixed(), low.y.to_fixed());
+    let rise = high.y.to_fixed() - y;
+    y + rise.mul_div(at.to_fixed() - x, high.x.to_fixed() - x)
+}
+
 /// Scales by a ratio: a value at another size, as one formula.
 pub fn resized(value: Fixed, size: Fixed, units: Fixed) -> Fixed
     requires { fixed_bits units ≢ pos 0 }

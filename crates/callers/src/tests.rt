@@ -15,12 +15,12 @@ use crate::reader::{
     AxisRange, Group, Origins, Variant, counted_numbers, decode_range, encode_range, group_index,
     origin_at, origin_index,
 };
-use crate::scaler::exact_width;
+use crate::scaler::{exact_width, mapped};
 use crate::start::advance_at;
 use font_types::JsonFault::{InvalidTag, MissingMember, Syntax};
 use font_types::{
-    F2Dot14, F2Dot30, F4Dot12, F6Dot10, F26Dot6, F48Dot16, FWord, Fixed, GlyphId16, NameId, Scalar,
-    ScalarArray, TableDataRef, Tag, Uint24,
+    F2Dot14, F2Dot30, F4Dot12, F6Dot10, F26Dot6, F48Dot16, FWord, Fixed, GlyphId16, NameId, Point,
+    Scalar, ScalarArray, TableDataRef, Tag, Uint24,
 };
 use serde_json::Value;
 use std::test::Fail;
@@ -110,6 +110,33 @@ fn widths_that_fit(rt: HostRuntime) {
     }
     // The sum of the first two alone does not fit.
     assert!(rt; exact_width(&[max, one, minus], &[Fixed::ZERO; 3]) == Some(max));
+}
+
+// From 0 to 0 and from 1 to -1/2. So 1 of 2^14 is mapped to -2 of 2^16.
+#[test]
+fn mapped_coordinates(rt: HostRuntime) {
+    let low = Point::new(F2Dot14::ZERO, F2Dot14::ZERO);
+    let high = Point::new(F2Dot14::ONE, F2Dot14::from_bits(-0x2000));
+    for &(at, bits) in &[
+        (0, 0),
+        (1, -2),
+        (0x2000, -0x4000),
+        (0x3FFF, -0x7FFE),
+        (0x4000, -0x8000),
+    ] {
+        assert!(rt;
+            mapped(F2Dot14::from_bits(at), low, high).to_bits() == bits,
+            "{at}"
+        );
+    }
+    // A third of 1 of 2^14, and two thirds, are rounded to the nearest of 2^16.
+    let high = Point::new(F2Dot14::from_bits(3), F2Dot14::from_bits(1));
+    for &(at, bits) in &[(1, 1), (2, 3), (3, 4)] {
+        assert!(rt;
+            mapped(F2Dot14::from_bits(at), low, high).to_bits() == bits,
+            "{at}"
+        );
+    }
 }
 
 #[test]
