@@ -10,6 +10,7 @@ ghost use Rattle.font_types.specs.F2Dot30;
 ghost use Rattle.font_types.specs.F48Dot16;
 
 use crate::dumper::{Axis, row};
+use crate::evaluator::advance_at_settings;
 use crate::linter::{BadTag, validate};
 use crate::reader::{
     AxisRange, Group, Origins, Variant, counted_numbers, decode_range, encode_range, group_index,
@@ -20,10 +21,11 @@ use crate::start::advance_at;
 use font_types::JsonFault::{InvalidTag, MissingMember, Syntax};
 use font_types::{
     F2Dot14, F2Dot30, F4Dot12, F6Dot10, F26Dot6, F48Dot16, FWord, Fixed, GlyphId16, NameId, Point,
-    Scalar, ScalarArray, TableDataRef, Tag, Uint24,
+    Scalar, ScalarArray, TableDataRef, Tag, UfWord, Uint24,
 };
 use serde_json::Value;
 use std::test::Fail;
+use variations::{Avar, DeltaSetIndex, Fvar, ItemVariationStore, Setting};
 
 #[test]
 fn axes_and_columns(rt: HostRuntime) -> Result<(), Fail> {
@@ -212,4 +214,46 @@ fn units_that_clauses_name(rt: HostRuntime) {
     assert!(rt; units_of_16_bits().2[1] == F6Dot10::from_bits(0x400));
     assert!(rt; units_of_32_bits().1[1] == F26Dot6::from_bits(64));
     assert!(rt; units_of_64_bits()[1] == F48Dot16::from_bits(0x1_0000));
+}
+
+// One axis from 100 by 400 to 900, without a map, and a delta of 40 at 900.
+#[test]
+fn advances_at_settings(rt: HostRuntime) -> Result<(), Fail> {
+    let fvar = *b"\x00\x01\x00\x00\x00\x10\x00\x02\x00\x01\x00\x14\x00\x00\x00\x00\
+        wght\x00\x64\x00\x00\x01\x90\x00\x00\x03\x84\x00\x00\x00\x00\x01\x00";
+    let store = [
+        0, 1, 0, 0, 0, 12, 0, 1, 0, 0, 0, 22, 0, 1, 0, 1, 0, 0, 0x40, 0, 0x40, 0, 0, 1, 0, 1, 0, 1,
+        0, 0, 0, 40,
+    ];
+    let axes = (
+        &Fvar::new(&fvar).ok_or("an axis")?,
+        &Avar::new(None).ok_or("no map")?,
+    );
+    let store = ItemVariationStore::new(&store).ok_or("a store")?;
+    let (first, none) = (
+        DeltaSetIndex { outer: 0, inner: 0 },
+        DeltaSetIndex {
+            outer: 0xFFFF,
+            inner: 0xFFFF,
+        },
+    );
+    for &(axis, value, set, coordinate, advance) in &[
+        (b"wght", 650, first, 0x2000, Some(520)),
+        (b"wght", 900, first, 0x4000, Some(540)),
+        (b"wght", 400, first, 0, Some(500)),
+        (b"wght", 650, none, 0x2000, Some(500)),
+        // Of a subtable that is not there, and of an axis that is not there.
+        (b"wght", 650, DeltaSetIndex { outer: 1, inner: 0 }, 0x2000, None),
+        (b"wdth", 650, first, -0x4000, None),
+    ] {
+        let settings = [Setting {
+            axis: Tag::new(axis),
+            value: Fixed::from_i32(value),
+        }];
+        let mut at = [F2Dot14::NEG_ONE];
+        let found = advance_at_settings(axes, &settings, &mut at, &store, set, UfWord::new(500));
+        assert!(rt; found == advance.map(UfWord::new), "{value}");
+        assert!(rt; at == [F2Dot14::from_bits(coordinate)], "{value}");
+    }
+    Ok(())
 }
