@@ -6,11 +6,12 @@
 ghost use Rattle.std.specs.List.Sorted.{IsPermutation, IsSortedByKey};
 ghost use Rattle.std.specs.List.{AllAdjacentBelow, sum_by};
 ghost use Rattle.std.specs.Prelude.{◌≡◌, ◌↔◌, ◌≤◌, ◌+◌, ◌%◌, ◌^◌, All, IsTrue, MatchResult, length};
-ghost use Rattle.std.specs.Prelude.{IsSome, IfSome, IfNone, take, drop, pos};
+ghost use Rattle.std.specs.Prelude.{IsSome, IfSome, IfNone, MatchOption, take, drop, pos};
 ghost use Rattle.font_types.specs.{Array.array_elements, Bytes.numeral, Bytes.bytes_of};
 ghost use Rattle.font_types.specs.Tag.{tag_bytes, IsGood};
-ghost use Rattle.callers.specs.Linter.{IsFirstBad};
+ghost use Rattle.callers.specs.Linter.{IsFirstBad, IsInOrder, IsFirstUnordered};
 
+use crate::reader::AxisRange;
 use font_types::{InvalidTag, Offset32, Scalar, ScalarArray, Tag};
 use std::cmp::Ordering;
 use thiserror::Error;
@@ -38,6 +39,31 @@ pub fn validate(tags: &[Tag]) -> Result<(), BadTag>
         }
     }
     Ok(())
+}
+
+/// Checks each element for what has two parts: the index of the first axis whose values are not in
+/// order, or `None`.
+///
+/// `IsInOrder` is `unfoldable`, and `is_in_order` alone unfolds it. So the search takes it as it is
+/// in the loop, where it would stop at the parts of a record.
+pub fn first_unordered(axes: &[AxisRange]) -> Option<usize>
+    ensures { MatchOption result (All IsInOrder axes.now)
+        (λ index. IsFirstUnordered axes.now index) }
+{
+    for (index, axis) in axes.iter().enumerate() {
+        if !is_in_order(axis) {
+            return Some(index);
+        }
+    }
+    None
+}
+
+// Returns whether the values of an axis are in order.
+#[tactic(auto, using(font_types::proofs::Callers::tables), unfolding(crate::specs::Linter::IsInOrder))]
+fn is_in_order(axis: &AxisRange) -> bool
+    ensures { IsTrue result ↔ IsInOrder axis.now }
+{
+    axis.min <= axis.default && axis.default <= axis.max
 }
 
 /// Checks every two neighbors: whether tags are strictly ascending.

@@ -139,9 +139,8 @@ pub fn average(a: F2Dot14, b: F2Dot14) -> F2Dot14
 
 /// Divides two differences: the scalar of a region, from the start of its axis to the peak.
 ///
-/// The clauses prove by the three orders as they stand in `requires`. In a branch, whose tests
-/// leave two orders such as `start <= at` and `at < peak`, name `ratios` after `numbers`: it has
-/// the value as `rounded_mul_div` and the same bounds.
+/// The clauses prove by the three orders as they stand in `requires`, and also with the value as
+/// `rounded_mul_div`. Write all three, even if two of them give the third.
 pub fn rising(start: F2Dot14, peak: F2Dot14, at: F2Dot14) -> Fixed
     requires { (f2dot14_bits start ≤ℤ f2dot14_bits at) × (f2dot14_bits at ≤ℤ f2dot14_bits peak)
         × (f2dot14_bits start <ℤ f2dot14_bits peak) }

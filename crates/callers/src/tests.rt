@@ -11,7 +11,7 @@ ghost use Rattle.font_types.specs.F48Dot16;
 
 use crate::dumper::{Axis, row};
 use crate::evaluator::advance_at_settings;
-use crate::linter::{BadTag, validate};
+use crate::linter::{BadTag, first_unordered, validate};
 use crate::reader::{
     AxisRange, Group, Origins, Variant, counted_numbers, decode_range, encode_range, group_index,
     origin_at, origin_index,
@@ -52,6 +52,37 @@ fn first_bad_tag(rt: HostRuntime) {
     let tags = [b"glyf", b"cvt ", b"c vt", b"    "].map(Tag::new);
     let error = font_types::InvalidTag::ByteAfterSpace { pos: 2 };
     assert!(rt; validate(&tags[..2]).is_ok() && validate(&tags) == Err(BadTag { index: 2, error }));
+}
+
+// An axis with these raw values.
+fn axis_of(numbers: [i32; 3]) -> AxisRange {
+    let [min, default, max] = numbers.map(Fixed::from_bits);
+    let tag = Tag::new(b"wght");
+    AxisRange {
+        tag,
+        min,
+        default,
+        max,
+    }
+}
+
+#[test]
+fn first_unordered_axis(rt: HostRuntime) {
+    for &(numbers, first) in &[
+        ([-1, 0, 1], None),
+        ([1, 1, 1], None),
+        ([2, 1, 3], Some(1)),
+        ([1, 3, 2], Some(1)),
+        ([3, 2, 1], Some(1)),
+    ] {
+        let axes = [axis_of([0; 3]), axis_of(numbers), axis_of([0, -1, 0])];
+        let found = first_unordered(&axes[..2]);
+        assert!(rt;
+            found == first && first_unordered(&axes[2..]) == Some(0),
+            "{numbers:?}"
+        );
+    }
+    assert!(rt; first_unordered(&[]).is_none());
 }
 
 // Version 1.0: 880 for all glyphs but two.
@@ -243,7 +274,13 @@ fn advances_at_settings(rt: HostRuntime) -> Result<(), Fail> {
         (b"wght", 400, first, 0, Some(500)),
         (b"wght", 650, none, 0x2000, Some(500)),
         // Of a subtable that is not there, and of an axis that is not there.
-        (b"wght", 650, DeltaSetIndex { outer: 1, inner: 0 }, 0x2000, None),
+        (
+            b"wght",
+            650,
+            DeltaSetIndex { outer: 1, inner: 0 },
+            0x2000,
+            None,
+        ),
         (b"wdth", 650, first, -0x4000, None),
     ] {
         let settings = [Setting {
