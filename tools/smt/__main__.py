@@ -42,9 +42,11 @@ from rows import rules
 import table
 from build import Refusal, build, version
 from ir import Module
+from memory import globals_of
 from proof import fault_of
 from state import ANSWERS, LIMIT, SECOND, ask, undecided, use_second
 
+FORK = multiprocessing.get_context("fork")
 # What the processes share: the options, the IR, the library, and the rows in groups.
 SHARED: tuple[argparse.Namespace, Module, ctypes.CDLL | None, list[list[table.Row]]]
 
@@ -74,6 +76,21 @@ def prove(index: int) -> list[Proved]:
     return found
 
 
+def prove_apart(index: int) -> list[Proved]:
+    """Proves the rows of a group in a process of its own. How long Z3 takes depends on the terms
+    that it had before, so these are the same in each run."""
+    receive, send = FORK.Pipe(duplex=False)
+    process = FORK.Process(target=lambda: send.send(prove(index)))
+    process.start()
+    send.close()
+    try:
+        found: list[Proved] = receive.recv()
+    except EOFError:
+        raise Refusal(f"{SHARED[-1][index][0].name} ends the process that proves it") from None
+    process.join()
+    return found
+
+
 def run(options: argparse.Namespace, room: Path) -> list[Proved]:
     """Proves the functions whose names have a pattern, in several processes."""
     global SHARED
@@ -85,14 +102,15 @@ def run(options: argparse.Namespace, room: Path) -> list[Proved]:
         # LLVM makes one function of those with the same code.
         groups.setdefault(table.key(module, row) or index, []).append(row)
     SHARED = options, module, library, list(groups.values())
+    # Read before the processes start, the constants are there in each.
+    globals_of(module)
     found: list[Proved] = []
-    # A function that aborts ends its process, and with it the run.
     try:
-        processes = ProcessPoolExecutor(options.jobs, multiprocessing.get_context("fork"))
+        processes = ProcessPoolExecutor(options.jobs, FORK)
     except OSError as error:
         raise Refusal(f"Python starts no process without a /dev/shm to write to: {error}") from None
     with processes as pool:
-        for group in pool.map(prove, range(len(groups))):
+        for group in pool.map(prove_apart, range(len(groups))):
             for it in group:
                 print(it.shown, flush=True)
             found += group

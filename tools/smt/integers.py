@@ -122,6 +122,8 @@ class Integers:
             return a, (low, high)
         if kind == z3.Z3_OP_SIGN_EXT:
             half = 1 << children[0].size() - 1
+            if high < half:
+                return a, (low, high)
             return signed(a, children[0].size()), (-half, half - 1)
         if kind == z3.Z3_OP_EXTRACT:
             bottom = term.params()[1]

@@ -139,6 +139,7 @@ MADE = (
     lambda w, a, b: z3.If(z3.ULT(a, b), a, b), lambda w, a, b: z3.If(a < b, a, b),
     lambda w, a, b: z3.Extract(w, 1, z3.ZeroExt(2, a)), lambda w, a, b: z3.Concat(
         z3.Extract(w - 1, w // 2, a), z3.Extract(w // 2 - 1, 0, b)),
+    lambda w, a, b: z3.Extract(w, 1, z3.SignExt(2, a) * z3.SignExt(2, number(w))),
 )
 
 def term(w, depth):
