@@ -181,10 +181,7 @@ class Proof:
         # Most goals need no fact.
         if self.solver(goal, [], QUICK).check() == z3.unsat:
             return ask(conditions)
-        # Of bits, a goal about a quotient may take long, by chance 20 times as long in another run. Of
-        # integers, a result with products of unknowns takes long.
-        is_linear = why != WRONG or not self.arithmetic.nodes
-        if is_linear and OUTSIDE not in why and self.is_refuted(conditions):
+        if why != WRONG and OUTSIDE not in why and self.is_refuted(conditions):
             return None
         solver = self.solver(goal, self.products.every())
         answer = solver.check()

@@ -81,6 +81,7 @@ def array_of(kind: Kind) -> None:
     of_new("as_raw", f", {I}",
            f"it.as_raw().get(i).map(|it| <{kind.type} as Scalar>::from_raw(*it))",
            lambda n, i: i, lambda n, i: z3.ULT(i, n))
+    # What a quotient by 3 leaves takes long.
     chunks = f"<[u8; {size}] as ByteChunks>::as_chunks(text)"
     case(f"[u8; {size}]::as_chunks", f"text: bytes, {I}", result,
          f"{chunks}.0.get(i).map(|it| <{kind.type} as Scalar>::from_raw(*it){kind.get})",
@@ -89,7 +90,7 @@ def array_of(kind: Kind) -> None:
     case(f"[u8; {size}]::as_chunks, rest", f"text: bytes, {I}", "?u8", f"{chunks}.1{BYTE}",
          lambda p, text, i: (lambda start: some(
              z3.ULT(i, text.length - start), text.byte(start + i)
-         ))(count(text.length, size) * size))
+         ))(count(text.length, size) * size), is_long=size == 3)
     given = "text: bytes, at: size, n: size"
     read = f"{array}::read_at(text, at, n)"
     case(f"{T}::read_at, len", given, "?u64", of(read, "Some(it.len() as u64)"),
@@ -107,7 +108,7 @@ def array_of(kind: Kind) -> None:
          f"{taken} let _ = taken; rest{BYTE} }}",
          lambda p, text, n, i: (lambda start: some(
              z3.ULT(i, text.length - start), text.byte(start + i)
-         ))(z3.If(has(text, ZERO, n, size), n * size, ZERO)))
+         ))(z3.If(has(text, ZERO, n, size), n * size, ZERO)), is_long=size == 3)
 
 
 def iterator_of(kind: Kind) -> None:
