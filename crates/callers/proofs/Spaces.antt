@@ -1,7 +1,7 @@
 -- The text of a number has no space, and a word without a space ends at the first one.
-use Rattle.std.proofs.Common.{◌≡◌, ◌≢◌, ◌∙◌, sym, ap, ◌<◌, ◌+◌, ℕ, suc, List, [], ◌∷◌, ◌++◌, length, get_or}
+use Rattle.std.proofs.Common.{◌≡◌, ◌≢◌, ◌∙◌, sym, ap, ◌<◌, ◌+◌, ℕ, suc, List, [], ◌∷◌, ◌++◌, length, take, get_or}
 use Rattle.std.proofs.Common.{arith, true, false, Bool}
-use Rattle.std.proofs.lemmas.List.{length-append}
+use Rattle.std.proofs.lemmas.List.{length-append, length-take-le, get_or-take}
 use Rattle.std.proofs.lemmas.List.Elements.{All-same, All-append, All-from_get_or, All-nil, All-cons}
 use Rattle.std.proofs.lemmas.{List.Prefix.front_reads, Str.Parse.digit_at}
 use Rattle.std.proofs.Math.Seq.{get_or-append_seam}
@@ -33,6 +33,12 @@ of_decimal text is_negative whole fraction parts =
     (All-append is_no_space (sign_text is_negative) (whole ++ fraction_text fraction) (of_sign is_negative)
     (All-append is_no_space whole (fraction_text fraction) (of_digits whole parts.whole_digits.1)
     (of_fraction fraction parts.fraction_digits)))
+
+-- no byte before the first space is one
+pub before_end : (text : List ℕ) (end : ℕ) → IsWordEnd text end → HasNoSpace (take end text)
+before_end text end is = All-from_get_or is_no_space (take end text) 0 (λ i within same.
+    let before : i < end = omega (arith, within, length-take-le end text is.within) in
+    is.before i 0 (omega arith) before (sym (get_or-take end text i 0 before) ∙ same))
 
 -- the first space of a text is that behind its first word
 pub end_is : (text word rest : List ℕ) (end : ℕ) → IsWordEnd text end → HasNoSpace word

@@ -1,9 +1,8 @@
 -- Reports of a linter.
-use Rattle.std.specs.{Prelude.◌<◌, Prelude.ℕ, Prelude.List, Prelude.length, Prelude.Err, Prelude.◌≤ℤ◌}
+use Rattle.std.specs.Prelude.{◌<◌, ◌+◌, ◌*◌, ◌/◌, ◌≤ℤ◌, ℕ, ℤ, List, length, take, drop, Err}
 use Rattle.std.specs.{List.AllWithin, List.HoldsAt}
-use Rattle.font_types.specs.{declared.Tag.Tag, Tag.tag_bytes, Tag.IsGood, Tag.IsValidated, Fixed.fixed_bits}
+use Rattle.font_types.specs.{declared.Tag.Tag, Tag.tag_bytes, Tag.IsGood, Tag.IsValidated, Bytes.signed_numeral}
 use Rattle.callers.specs.declared.linter.BadTag.{BadTag}
-use Rattle.callers.specs.declared.reader.AxisRange.{AxisRange}
 
 -- the tags before that index are good, and the one there is not, for that reason
 pub record IsFirstBad (tags : List Tag) (bad : BadTag) : Type 0 where
@@ -11,12 +10,17 @@ pub record IsFirstBad (tags : List Tag) (bad : BadTag) : Type 0 where
   pub before : AllWithin (λ tag. IsGood (tag_bytes tag)) tags 0 bad.index
   pub there : HoldsAt (λ tag. IsValidated (tag_bytes tag) (Err bad.error)) tags bad.index
 
--- the values of an axis are in order (OpenType, fvar: minValue, defaultValue and maxValue)
-unfoldable pub IsInOrder : AxisRange → Type 0
-IsInOrder axis = (fixed_bits axis.min ≤ℤ fixed_bits axis.default) × (fixed_bits axis.default ≤ℤ fixed_bits axis.max)
+-- the 16.16 number at an offset
+abbrev pub number_at : List ℕ → ℕ → ℤ
+number_at bytes at = signed_numeral 4 (take 4 (drop at bytes))
+
+-- the values of the axis at that offset are in order (OpenType, fvar: minValue, defaultValue and maxValue after axisTag)
+unfoldable pub IsInOrder : List ℕ → ℕ → Type 0
+IsInOrder axes at = (number_at axes (at + 4) ≤ℤ number_at axes (at + 8))
+    × (number_at axes (at + 8) ≤ℤ number_at axes (at + 12))
 
 -- the axes before that index are in order, and the one there is not
-pub record IsFirstUnordered (axes : List AxisRange) (index : ℕ) : Type 0 where
-  pub within : index < length axes
-  pub before : AllWithin IsInOrder axes 0 index
-  pub there : HoldsAt (λ axis. ¬ IsInOrder axis) axes index
+pub record IsFirstUnordered (axes : List ℕ) (index : ℕ) : Type 0 where
+  pub within : index < length axes / 20
+  pub before : (k : ℕ) → k < index → IsInOrder axes (k * 20)
+  pub there : ¬ IsInOrder axes (index * 20)

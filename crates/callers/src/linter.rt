@@ -5,14 +5,14 @@
 
 ghost use Rattle.std.specs.List.Sorted.{IsPermutation, IsSortedByKey};
 ghost use Rattle.std.specs.List.{AllAdjacentBelow, sum_by};
-ghost use Rattle.std.specs.Prelude.{◌≡◌, ◌↔◌, ◌≤◌, ◌+◌, ◌%◌, ◌^◌, All, IsTrue, MatchResult, length};
-ghost use Rattle.std.specs.Prelude.{IsSome, IfSome, IfNone, MatchOption, take, drop, pos};
+ghost use Rattle.std.specs.Prelude.{◌≡◌, ◌↔◌, ◌≤◌, ◌<◌, ◌+◌, ◌*◌, ◌/◌, ◌%◌, ◌^◌, All, IsTrue};
+ghost use Rattle.std.specs.Prelude.{IsSome, IfSome, IfNone, MatchOption, MatchResult, length};
+ghost use Rattle.std.specs.Prelude.{take, drop, pos, ℕ};
 ghost use Rattle.font_types.specs.{Array.array_elements, Bytes.numeral, Bytes.bytes_of};
 ghost use Rattle.font_types.specs.Tag.{tag_bytes, IsGood};
 ghost use Rattle.callers.specs.Linter.{IsFirstBad, IsInOrder, IsFirstUnordered};
 
-use crate::reader::AxisRange;
-use font_types::{InvalidTag, Offset32, Scalar, ScalarArray, Tag};
+use font_types::{Fixed, InvalidTag, Offset32, Scalar, ScalarArray, Tag};
 use std::cmp::Ordering;
 use thiserror::Error;
 
@@ -41,29 +41,34 @@ pub fn validate(tags: &[Tag]) -> Result<(), BadTag>
     Ok(())
 }
 
-/// Checks each element for what has two parts: the index of the first axis whose values are not in
-/// order, or `None`.
+/// Checks each record for what has several parts: the index of the first axis of `fvar` whose
+/// values are not in order, or `None`.
 ///
-/// `IsInOrder` is `unfoldable`, and `is_in_order` alone unfolds it. So the search takes it as it is
-/// in the loop, where it would stop at the parts of a record.
-pub fn first_unordered(axes: &[AxisRange]) -> Option<usize>
-    ensures { MatchOption result (All IsInOrder axes.now)
+/// `IsInOrder` is `unfoldable`, and `is_in_order` alone unfolds it. If it is an `abbrev` or a
+/// record in place of that, the loop stays open.
+pub fn first_unordered(axes: &[u8]) -> Option<usize>
+    ensures { MatchOption result
+        ((k : ℕ) → k < length axes.now / 20 → IsInOrder axes.now (k * 20))
         (λ index. IsFirstUnordered axes.now index) }
 {
-    for (index, axis) in axes.iter().enumerate() {
-        if !is_in_order(axis) {
+    for index in 0..axes.len() / 20 {
+        if !is_in_order(axes, index * 20) {
             return Some(index);
         }
     }
     None
 }
 
-// Returns whether the values of an axis are in order.
-#[tactic(auto, using(font_types::proofs::Callers::tables), unfolding(crate::specs::Linter::IsInOrder))]
-fn is_in_order(axis: &AxisRange) -> bool
-    ensures { IsTrue result ↔ IsInOrder axis.now }
+// Returns whether the values of the axis at an offset are in order.
+#[tactic(auto, unfolding(crate::specs::Linter::IsInOrder))]
+fn is_in_order(axes: &[u8], at: usize) -> bool
+    requires { at + 20 ≤ length axes.now }
+    ensures { IsTrue result ↔ IsInOrder axes.now at }
 {
-    axis.min <= axis.default && axis.default <= axis.max
+    let min = Fixed::read_at(axes, at + 4).unwrap();
+    let default = Fixed::read_at(axes, at + 8).unwrap();
+    let max = Fixed::read_at(axes, at + 12).unwrap();
+    min <= default && default <= max
 }
 
 /// Checks every two neighbors: whether tags are strictly ascending.

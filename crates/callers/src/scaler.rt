@@ -47,7 +47,7 @@ pub fn in_turn(scale: Matrix<Fixed>, place: Matrix<Fixed>, point: Point<Fixed>) 
 /// 2048.
 ///
 /// The bounds give the precondition of `composed` by the lemma `fits_composed`, in the answer in
-/// `proofs/scaler/scale_point`.
+/// `proofs/scaler/scale_point`, without which this stays open. `fits_in_turn` is for `in_turn`.
 pub fn scale_point(scale: Matrix<Fixed>, place: Matrix<Fixed>, point: Point<Fixed>) -> Point<Fixed>
     requires scale { IsBounded (2 ^ 16) (2 ^ 28) (matrix_bits scale) }
     requires place { IsBounded (2 ^ 16) (2 ^ 28) (matrix_bits place) }

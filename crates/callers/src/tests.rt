@@ -18,6 +18,7 @@ use crate::reader::{
 };
 use crate::scaler::{exact_width, mapped};
 use crate::start::advance_at;
+use crate::words::{Range, parsed_range};
 use font_types::JsonFault::{InvalidTag, MissingMember, Syntax};
 use font_types::{
     F2Dot14, F2Dot30, F4Dot12, F6Dot10, F26Dot6, F48Dot16, FWord, Fixed, GlyphId16, NameId, Point,
@@ -54,35 +55,44 @@ fn first_bad_tag(rt: HostRuntime) {
     assert!(rt; validate(&tags[..2]).is_ok() && validate(&tags) == Err(BadTag { index: 2, error }));
 }
 
-// An axis with these raw values.
-fn axis_of(numbers: [i32; 3]) -> AxisRange {
-    let [min, default, max] = numbers.map(Fixed::from_bits);
-    let tag = Tag::new(b"wght");
-    AxisRange {
-        tag,
-        min,
-        default,
-        max,
-    }
-}
-
+// Two axes of `fvar`: the second has these first bytes of its minimum, default and maximum.
 #[test]
 fn first_unordered_axis(rt: HostRuntime) {
-    for &(numbers, first) in &[
-        ([-1, 0, 1], None),
+    for &([min, default, max], first) in &[
+        ([0, 1, 2], None),
         ([1, 1, 1], None),
+        ([0xFF, 0, 1], None),
         ([2, 1, 3], Some(1)),
         ([1, 3, 2], Some(1)),
-        ([3, 2, 1], Some(1)),
+        ([1, 0, 0xFF], Some(1)),
     ] {
-        let axes = [axis_of([0; 3]), axis_of(numbers), axis_of([0, -1, 0])];
-        let found = first_unordered(&axes[..2]);
-        assert!(rt;
-            found == first && first_unordered(&axes[2..]) == Some(0),
-            "{numbers:?}"
-        );
+        let mut axes = [0; 40];
+        axes[24] = min;
+        axes[28] = default;
+        axes[32] = max;
+        let found = first_unordered(&axes);
+        assert!(rt; found == first, "{min} {default} {max}");
+        let found = (first_unordered(&axes[20..]), first_unordered(&axes[..39]));
+        assert!(rt; found == (first.map(|_| 0), None), "{min} {default} {max}");
     }
     assert!(rt; first_unordered(&[]).is_none());
+}
+
+// Three numbers, and texts that are none.
+#[test]
+fn ranges_of_words(rt: HostRuntime) {
+    let [min, default, max] = [100, 400, 900].map(Fixed::from_i32);
+    assert!(rt; parsed_range(b"100 400.0 900") == Some(Range { min, default, max }));
+    for text in &[
+        "",
+        "100 400",
+        "100 400 ",
+        "100  400 900",
+        "100 400 900 ",
+        "100 x 900",
+    ] {
+        assert!(rt; parsed_range(text.as_bytes()).is_none(), "{text}");
+    }
 }
 
 // Version 1.0: 880 for all glyphs but two.

@@ -1,13 +1,14 @@
 //! Lines of several words: three numbers with single spaces, printed and parsed.
 
-ghost use Rattle.std.specs.Prelude.{◌≡◌, ◌≤◌, ◌+◌, ◌++◌, length, take, FitsSigned, Some, IsSome, IfSome};
-ghost use Rattle.std.specs.Prelude.{List, ℕ};
+ghost use Rattle.std.specs.Prelude.{◌≡◌, ◌↔◌, ◌≤◌, ◌+◌, ◌++◌, length, take, FitsSigned};
+ghost use Rattle.std.specs.Prelude.{Some, IsSome, IfSome, List, ℕ};
 ghost use Rattle.std.specs.Int.{w32};
 ghost use lib.Chars.{codes};
 ghost use Rattle.font_types.specs.{Fixed.fixed_text, Fixed.fixed_bits, Operations.ReadsBits};
 ghost use Rattle.font_types.specs.Fixed.{Fixed};
 ghost use Rattle.callers.specs.declared.words.Range.{Range};
-ghost use Rattle.callers.specs.Words.{HasNoSpace, IsWordEnd, range_text, AreNumbersOf};
+ghost use Rattle.callers.specs.Words.{HasNoSpace, IsWordEnd, IsNumber, IsRange, range_text};
+ghost use Rattle.callers.specs.Words.{AreRead, AreNumbersOf};
 
 use crate::dumper::put;
 use font_types::Fixed;
@@ -59,6 +60,7 @@ fn word_end(text: &[u8]) -> usize
 pub fn split_word(text: &[u8]) -> Option<(&[u8], &[u8])>
     ensures parts { IfSome result (λ parts.
         text.now ≡ parts.0.now ++ (codes " " ++ parts.1.now)) }
+    ensures no_space { IfSome result (λ parts. HasNoSpace parts.0.now) }
     ensures word { (word rest : List ℕ) → HasNoSpace word → text.now ≡ word ++ (codes " " ++ rest)
         → IsSome result × IfSome result (λ parts. (parts.0.now ≡ word) × (parts.1.now ≡ rest)) }
 {
@@ -70,8 +72,11 @@ pub fn split_word(text: &[u8]) -> Option<(&[u8], &[u8])>
     }
 }
 
-// Parses a word: a number.
-fn parsed_word(word: &[u8]) -> Option<Fixed>
+/// Parses a word: a number, or `None` if it is none.
+///
+/// The clause `variant` says which texts are refused, by a record that has the number.
+pub fn parsed_word(word: &[u8]) -> Option<Fixed>
+    ensures variant { IsSome result ↔ IsNumber word.now }
     ensures reads { IfSome result (λ x. ReadsBits 32 16 word.now (fixed_bits x)) }
     ensures printed { (x : Fixed) → FitsSigned w32 (fixed_bits x)
         → word.now ≡ fixed_text x → result ≡ Some x }
@@ -79,11 +84,29 @@ fn parsed_word(word: &[u8]) -> Option<Fixed>
     Fixed::from_decimal_bytes(word).ok()
 }
 
+// Parses three words: three numbers.
+fn parsed_words(min: &[u8], default: &[u8], max: &[u8]) -> Option<Range>
+    ensures variant { IsSome result
+        ↔ (IsNumber min.now × (IsNumber default.now × IsNumber max.now)) }
+    ensures reads { IfSome result (λ range. AreRead min.now default.now max.now range) }
+    ensures printed { (range : Range) → FitsSigned w32 (fixed_bits range.min)
+        → FitsSigned w32 (fixed_bits range.default) → FitsSigned w32 (fixed_bits range.max)
+        → min.now ≡ fixed_text range.min → default.now ≡ fixed_text range.default
+        → max.now ≡ fixed_text range.max → result ≡ Some range }
+{
+    let min = parsed_word(min)?;
+    let default = parsed_word(default)?;
+    let max = parsed_word(max)?;
+    Some(Range { min, default, max })
+}
+
 /// Parses several numbers with single spaces: three, or `None` if a text is not that.
 ///
-/// In functions of their own: the split at a space, and the parsing of a word. Copy this file and
-/// `proofs/Spaces.antt`. `parts` says what is read, and `printed` that each printed line is.
+/// In functions of their own: the split at a space, and the parsing of the words. Copy this file and
+/// `proofs/Spaces.antt`. `variant` says which texts are refused, `parts` what is read, and `printed`
+/// that each printed line is.
 pub fn parsed_range(text: &[u8]) -> Option<Range>
+    ensures variant { IsSome result ↔ IsRange text.now }
     ensures parts { IfSome result (λ range. AreNumbersOf text.now range) }
     ensures printed { (range : Range) → FitsSigned w32 (fixed_bits range.min)
         → FitsSigned w32 (fixed_bits range.default) → FitsSigned w32 (fixed_bits range.max)
@@ -92,10 +115,7 @@ pub fn parsed_range(text: &[u8]) -> Option<Range>
 {
     let (min, rest) = split_word(text)?;
     let (default, max) = split_word(rest)?;
-    let min = parsed_word(min)?;
-    let default = parsed_word(default)?;
-    let max = parsed_word(max)?;
-    Some(Range { min, default, max })
+    parsed_words(min, default, max)
 }
 
 /// Writes numbers and parses them: themselves.
