@@ -117,7 +117,8 @@ pub ruleset calls = (
 pub ruleset lerps = (lerp_calls, wide_lerp_calls, ratio_calls, mul_div_is)
 
 -- for `(x - p) / (q - p)` and `(q - x) / (q - p)` in a branch, by the two orders that its tests leave: `p <= x` and
--- `x < q`, or `p < x` and `x <= q`
+-- `x < q`, or `p < x` and `x <= q`. Of numbers that were widened from 2.14, it has no bounds, and `(x - p) / (q - p)`
+-- by the first two orders alone, `(q - x) / (q - p)` by the last two
 pub ruleset ratios = (order_ratio_calls)
 
 -- for `IsIntegral` of the greater of two integers, of a negation, or of a sum with a constant or with halves
