@@ -225,7 +225,7 @@ class Pages(unittest.TestCase):
             self.fail("\n".join(["", *wrong]))
 
     def test_shown_code(self) -> None:
-        # README shows a contract and a definition, CALLING and CONTRIBUTING a file.
+        # README and CALLING show contracts and definitions, CALLING and CONTRIBUTING files.
         files = ["src/reader.rt", "specs/Reading.antt"]
         source = squeezed("".join(text(f"crates/font_decimal/{file}") for file in files))
         _, page = text("README.md").split("## What a contract looks like")
@@ -237,6 +237,9 @@ class Pages(unittest.TestCase):
         answers = after.split("```text\n", 1)[1].split("```")[0]
         (place,) = re.findall(r"Rattle\.callers\.(\S+)\.Goals", answers)
         self.assertEqual(answers, text(f"crates/callers/{place.replace('.', '/')}/Answers.antt"))
+        callers = squeezed("".join(map(text, of("crates/callers/", ".rt", ".antt"))))
+        for block in re.findall(r"```(?:rust|antt)\n(.*?)```", after, re.DOTALL):
+            self.assertTrue(squeezed(block) in callers, block)
         page, mutant = text("CONTRIBUTING.md"), r"`(\S+\.edit)`:\n\n```text\n(.*?)```"
         ((file, shown),) = re.findall(mutant, page, re.DOTALL)
         self.assertEqual(shown, text(file))
