@@ -14,7 +14,7 @@ pub record IsFirstBad (tags : List Tag) (bad : BadTag) : Type 0 where
 abbrev pub number_at : List ℕ → ℕ → ℤ
 number_at bytes at = signed_numeral 4 (take 4 (drop at bytes))
 
--- the values of the axis at that offset are in order (OpenType, fvar: minValue, defaultValue and maxValue after axisTag)
+-- the values of the axis at that offset are in order (OpenType, fvar: minValue, defaultValue, maxValue)
 unfoldable pub IsInOrder : List ℕ → ℕ → Type 0
 IsInOrder axes at = (number_at axes (at + 4) ≤ℤ number_at axes (at + 8))
     × (number_at axes (at + 8) ≤ℤ number_at axes (at + 12))

@@ -18,11 +18,12 @@ use crate::reader::{
 };
 use crate::scaler::{exact_width, mapped};
 use crate::start::advance_at;
-use crate::words::{Range, parsed_range};
+use crate::words::PairFault::{First, NoSecond, Second};
+use crate::words::{Range, parsed_pair, parsed_range};
 use font_types::JsonFault::{InvalidTag, MissingMember, Syntax};
 use font_types::{
-    F2Dot14, F2Dot30, F4Dot12, F6Dot10, F26Dot6, F48Dot16, FWord, Fixed, GlyphId16, NameId, Point,
-    Scalar, ScalarArray, TableDataRef, Tag, UfWord, Uint24,
+    DecimalFault, F2Dot14, F2Dot30, F4Dot12, F6Dot10, F26Dot6, F48Dot16, FWord, Fixed, GlyphId16,
+    NameId, Point, Scalar, ScalarArray, TableDataRef, Tag, UfWord, Uint24,
 };
 use serde_json::Value;
 use std::test::Fail;
@@ -92,6 +93,24 @@ fn ranges_of_words(rt: HostRuntime) {
         "100 x 900",
     ] {
         assert!(rt; parsed_range(text.as_bytes()).is_none(), "{text}");
+    }
+}
+
+#[test]
+fn pairs_of_words(rt: HostRuntime) {
+    let pair = (Fixed::from_i32(100), Fixed::from_bits(0xE6_8000));
+    assert!(rt; parsed_pair("100 230.5") == Ok(pair));
+    for (text, fault) in &[
+        ("", NoSecond),
+        ("100", NoSecond),
+        ("100 ", Second(DecimalFault::Syntax)),
+        (" 100", First(DecimalFault::Syntax)),
+        ("100  900", Second(DecimalFault::Syntax)),
+        ("100 900 ", Second(DecimalFault::Syntax)),
+        ("40000 x", First(DecimalFault::OutOfRange)),
+        ("100 40000", Second(DecimalFault::OutOfRange)),
+    ] {
+        assert!(rt; parsed_pair(text).err().as_ref() == Some(fault), "{text}");
     }
 }
 

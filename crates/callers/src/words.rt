@@ -1,17 +1,21 @@
-//! Lines of several words: three numbers with single spaces, printed and parsed.
+//! Lines of several words: numbers with single spaces, printed and parsed.
 
 ghost use Rattle.std.specs.Prelude.{◌≡◌, ◌↔◌, ◌≤◌, ◌+◌, ◌++◌, length, take, FitsSigned};
-ghost use Rattle.std.specs.Prelude.{Some, IsSome, IfSome, List, ℕ};
+ghost use Rattle.std.specs.Prelude.{Some, IsSome, IfSome, IsOk, MatchOption, List, ℕ};
 ghost use Rattle.std.specs.Int.{w32};
 ghost use lib.Chars.{codes};
 ghost use Rattle.font_types.specs.{Fixed.fixed_text, Fixed.fixed_bits, Operations.ReadsBits};
 ghost use Rattle.font_types.specs.Fixed.{Fixed};
 ghost use Rattle.callers.specs.declared.words.Range.{Range};
 ghost use Rattle.callers.specs.Words.{HasNoSpace, IsWordEnd, IsNumber, IsRange, range_text};
-ghost use Rattle.callers.specs.Words.{AreRead, AreNumbersOf};
+ghost use Rattle.callers.specs.Words.{AreRead, AreNumbersOf, space_at, AreParts, ParsesNumber};
+ghost use Rattle.callers.specs.Words.{ParsesPair};
 
 use crate::dumper::put;
-use font_types::Fixed;
+use font_types::{DecimalFault, Fixed};
+use thiserror::Error;
+
+// ---- three numbers
 
 /// Three numbers of an axis.
 #[derive(Clone, Copy, PartialEq, Eq)]
@@ -102,9 +106,9 @@ fn parsed_words(min: &[u8], default: &[u8], max: &[u8]) -> Option<Range>
 
 /// Parses several numbers with single spaces: three, or `None` if a text is not that.
 ///
-/// In functions of their own: the split at a space, and the parsing of the words. Copy this file and
-/// `proofs/Spaces.antt`. `variant` says which texts are refused, `parts` what is read, and `printed`
-/// that each printed line is.
+/// In functions of their own: the split at a space, and the parsing of the words. Copy
+/// `split_word`, what it calls, and `proofs/Spaces.antt`. `variant` says which texts are refused,
+/// `parts` what is read, and `printed` that each printed line is.
 pub fn parsed_range(text: &[u8]) -> Option<Range>
     ensures variant { IsSome result ↔ IsRange text.now }
     ensures parts { IfSome result (λ range. AreNumbersOf text.now range) }
@@ -127,4 +131,52 @@ pub fn range_again(range: Range) -> Option<Range>
     show_no_space(range.min);
     show_no_space(range.default);
     parsed_range(&out[..end])
+}
+
+// ---- two numbers, with errors
+
+/// Why a text is not two numbers.
+#[derive(Debug, PartialEq, Eq, Drop, Error)]
+pub enum PairFault {
+    /// It has no space.
+    #[error("no second number")]
+    NoSecond,
+    /// The part before the first space is not a number.
+    #[error("first number: {0}")]
+    First(DecimalFault),
+    /// The part after that space is not a number.
+    #[error("second number: {0}")]
+    Second(DecimalFault),
+}
+
+/// Parses parts with errors that name the part: two numbers.
+///
+/// `ParsesNumber` is a record of the library under a name of its own, and `unfoldable`. With
+/// `ParsesFixedPoint` in its place, the clause stays open. For a line of more parts, nest the
+/// errors: in a function that parses a tag and then a pair, one variant has a `PairFault`.
+pub fn parsed_pair(text: &str) -> Result<(Fixed, Fixed), PairFault>
+    ensures { ParsesPair text.now result }
+{
+    let (first, second) = split_pair(text).ok_or(PairFault::NoSecond)?;
+    let first = parsed_number(first).map_err(PairFault::First)?;
+    let second = parsed_number(second).map_err(PairFault::Second)?;
+    Ok((first, second))
+}
+
+// Splits a text at its first space.
+#[tactic(auto, using(std::proofs::lemmas::Str::Pattern::split_once_first))]
+fn split_pair(text: &str) -> Option<(&str, &str)>
+    ensures { MatchOption result (space_at text.now ≡ length text.now)
+        (λ parts. AreParts text.now parts.0.now parts.1.now) }
+{
+    text.split_once(' ')
+}
+
+// Parses a number.
+#[tactic(auto, unfolding(crate::specs::Words::ParsesNumber))]
+fn parsed_number(text: &str) -> Result<Fixed, DecimalFault>
+    ensures parsed { ParsesNumber text.now result }
+    ensures variant { IsOk result ↔ IsNumber text.now }
+{
+    Fixed::from_decimal(text)
 }
