@@ -18,7 +18,7 @@ ghost use Rattle.font_types.specs.{Records.record_laws, Wrap.fits_bits};
 ghost use Rattle.font_types.specs.{Tag.tag_bytes, Fixed.fixed_bits, Uint24.Laws.uint24_laws};
 ghost use Rattle.font_types.specs.Uint24.{uint24_number, uint24_of_bytes, bytes_of_uint24};
 ghost use Rattle.callers.specs.Reader.{metrics_bytes, range_bytes, first_character, last_character};
-ghost use Rattle.callers.specs.Reader.{AreInOrder, IsOutside};
+ghost use Rattle.callers.specs.Reader.{AreInOrder, IsOutside, IsMapped};
 
 use font_types::{
     BigEndian, FWord, Fixed, FixedSize, GlyphId16, LongDateTime, Offset16, OffsetValue, Scalar,
@@ -286,6 +286,22 @@ pub fn group_index(groups: &ScalarArray<'_, Group>, character: u32) -> Option<us
         }
     }
     None
+}
+
+/// Searches ranges and reads the one found: the glyph of a character, or `None`.
+///
+/// The field `index` of `IsMapped` is what `group_index` returns here. A function that has the index
+/// as an argument does not prove this clause.
+pub fn glyph_of(groups: &ScalarArray<'_, Group>, character: u32) -> Option<u32>
+    ensures found { IfSome result (λ glyph.
+        IsMapped (element_bytes groups.now) (array_len groups.now) character glyph) }
+    ensures none { AreInOrder (element_bytes groups.now) (array_len groups.now)
+        → IfNone result ((k : ℕ) → k < array_len groups.now
+        → IsOutside (element_bytes groups.now k) character) }
+{
+    let index = group_index(groups, character)?;
+    let group = groups.get(index)?;
+    Some(group.glyph.wrapping_add(character - group.first))
 }
 
 /// Takes an array after its count: 32-bit numbers, or `None` if the list ends before they do.

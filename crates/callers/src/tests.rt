@@ -13,8 +13,8 @@ use crate::dumper::{Axis, row};
 use crate::evaluator::advance_at_settings;
 use crate::linter::{BadTag, first_unordered, validate};
 use crate::reader::{
-    AxisRange, Group, Origins, Variant, counted_numbers, decode_range, encode_range, group_index,
-    origin_at, origin_index,
+    AxisRange, Group, Origins, Variant, counted_numbers, decode_range, encode_range, glyph_of,
+    group_index, origin_at, origin_index,
 };
 use crate::scaler::{exact_width, mapped};
 use crate::start::advance_at;
@@ -133,24 +133,31 @@ fn vertical_origins(rt: HostRuntime) -> Result<(), Fail> {
     Ok(())
 }
 
-// Two groups: of printable characters, and of emoticons.
+// Three groups: of printable characters, of emoticons, and of two whose glyphs wrap.
 #[test]
 fn groups_of_characters(rt: HostRuntime) -> Result<(), Fail> {
     let bytes = [
-        0, 0, 0, 0x20, 0, 0, 0, 0x7E, 0, 0, 0, 3, 0, 1, 0xF6, 0, 0, 1, 0xF6, 0x4F, 0, 0, 0, 98,
+        0, 0, 0, 0x20, 0, 0, 0, 0x7E, 0, 0, 0, 3, 0, 1, 0xF6, 0, 0, 1, 0xF6, 0x4F, 0, 0, 0, 98, 0,
+        2, 0, 0, 0, 2, 0, 1, 0xFF, 0xFF, 0xFF, 0xFF,
     ];
-    let groups = ScalarArray::<Group>::new(&bytes).ok_or("two groups")?;
-    for &(character, index) in &[
-        (0x1F, None),
-        (0x20, Some(0)),
-        (0x7E, Some(0)),
-        (0x7F, None),
-        (0x1F5FF, None),
-        (0x1F600, Some(1)),
-        (0x1F64F, Some(1)),
-        (0x1F650, None),
+    let groups = ScalarArray::<Group>::new(&bytes).ok_or("three groups")?;
+    for &(character, index, glyph) in &[
+        (0x1F, None, None),
+        (0x20, Some(0), Some(3)),
+        (0x7E, Some(0), Some(97)),
+        (0x7F, None, None),
+        (0x1F5FF, None, None),
+        (0x1F600, Some(1), Some(98)),
+        (0x1F64F, Some(1), Some(177)),
+        (0x1F650, None, None),
+        (0x20000, Some(2), Some(0xFFFF_FFFF)),
+        (0x20001, Some(2), Some(0)),
     ] {
-        assert!(rt; group_index(&groups, character) == index, "{character}");
+        let found = (
+            group_index(&groups, character),
+            glyph_of(&groups, character),
+        );
+        assert!(rt; found == (index, glyph), "{character}");
     }
     Ok(())
 }
