@@ -25,14 +25,6 @@ def order(factor: BitVecRef) -> tuple[bool, bool, int]:
     return not z3.is_const(of), not is_given, int(z3.simplify(factor).hash())
 
 
-def low_half(bits: BitVecRef) -> BitVecRef:
-    """Returns the low half, of a zero-extended number without an extract."""
-    half = bits.size() // 2
-    if z3.is_app_of(bits, z3.Z3_OP_ZERO_EXT) and bits.arg(0).size() <= half:
-        return extend(False, half, bits.arg(0))
-    return z3.simplify(z3.Extract(half - 1, 0, bits))
-
-
 class Arithmetic:
     """A product or a quotient of two unknowns is an unknown function of them. What is proved of
     every function with the facts is proved of the real one, because the facts are true of it.
@@ -96,10 +88,6 @@ class Arithmetic:
         width, greatest = a.size(), self.greatest(a) * self.greatest(b)
         if self.exact or is_constant(a) or is_constant(b):
             return self.keep(a * b, greatest) if greatest < 1 << width else a * b
-        if width == 64 and greatest < 1 << 32:
-            # Code for 32 bits has such a product in 32, and its rule in 64: here it is one term.
-            half = self.multiply(*(self.keep(low_half(it), self.greatest(it)) for it in (a, b)))
-            return self.keep(z3.ZeroExt(32, half), greatest)
         for few, it in ((a, b), (b, a)):
             # Of a factor of few bits, the sum of the multiples that its bits say.
             if self.greatest(few) < 1 << 4:
